@@ -1,0 +1,4 @@
+-- Records kept in lent words.
+pub mod Layout
+pub mod Tables
+pub mod Views

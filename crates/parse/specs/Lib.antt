@@ -1,0 +1,5 @@
+-- Reading a text: the grammar without a bound on depth, and where a reader stands.
+pub mod Layout
+pub mod Unbounded
+pub mod Reading
+pub mod InExpr
