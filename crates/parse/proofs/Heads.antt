@@ -8,8 +8,8 @@ use lib.Dec.{eqb}
 use lib.ListN.{length}
 use Rattle.std.proofs.shelf.Tests.{and-parts, eqb-true, eq-eqb, and-from}
 use Rattle.std.specs.declared.option.Option.the-variants.{Some, None}
-use Rattle.lang.specs.Base.{Word, same}
-use Rattle.lang.specs.Grammar.{starts, onward, a-name, a-number}
+use Rattle.lang.specs.Base.{Word, same, when}
+use Rattle.lang.specs.Grammar.{starts, onward, expect, a-name, a-number}
 use Rattle.lang.specs.Tokens.{Token, fixed, name, number, stray, spelled}
 use Rattle.lang.specs.declared.token.Fixed.{Fixed}
 
@@ -58,3 +58,10 @@ number-ahead (stray ∷ ts) us n h = let z : _≡_ {A = ℕ} 0 1 = cc in absurd 
 pub onward-short : (ts : List Token) → length (onward ts) ≤ length ts
 onward-short [] = omega arith
 onward-short (t ∷ ts) = omega arith
+
+pub expect-long : (f : Fixed) (ts us : List Token) → expect f ts ≡ Some us → length ts ≡ 1 + length us
+expect-long f ts us h = go (starts f ts) refl h
+  where
+    go : (b : Bool) → starts f ts ≡ b → when b (Some (onward ts)) ≡ Some us → length ts ≡ 1 + length us
+    go true e h = let same : onward ts ≡ us = cc in omega (arith, starts-long f ts e, ap length same)
+    go false e h = let z : _≡_ {A = ℕ} 0 1 = cc in absurd (omega arith)

@@ -2,21 +2,22 @@
 use mathlib.Core.Bool.{Bool, true, false, cond}
 use mathlib.Core.List.{List, [], _∷_, _++_, append-nil, append-assoc}
 use mathlib.Core.Path.{_≡_, refl, sym, ap, subst, _∙_}
-use Prim.Native.Nat.{ℕ, _-_, _<_, _≤_}
+use Prim.Native.Nat.{ℕ, _+_, _-_, _<_, _≤_}
 use native.Mathlib.Omega.{arith}
-use lib.ListN.{length, take, length-append}
-use Rattle.std.proofs.shelf.Lists.{take-at, getD-push, length-push}
+use lib.Dec.{ltb}
+use lib.ListN.{length, take, length-append, length-take}
+use Rattle.std.proofs.shelf.Lists.{take-at, getD-push, length-push, length-take-le}
 use Rattle.std.proofs.shelf.Maps.{nth-getD}
-use Rattle.std.proofs.shelf.Tests.{lt-ltb, le-ltb}
+use Rattle.std.proofs.shelf.Tests.{lt-ltb, le-ltb, ltb-true}
 use Rattle.std.specs.declared.option.Option.{Option}
 use Rattle.std.specs.declared.option.Option.the-variants.{Some, None}
-use Rattle.lang.specs.Base.{_>>=_, maybe}
+use Rattle.lang.specs.Base.{_>>=_, maybe, when}
 use Rattle.lang.specs.Code.{code-expr}
 use Rattle.lang.specs.Grammar.{Parsed, is, starts, onward, expect, a-name, a-number, additive, multiplicative}
 use Rattle.lang.specs.Instr as instr
 use Rattle.lang.specs.Instr.{Instr, name-at}
 use Rattle.parse.specs.InExpr.{tight, same-tier, of-tier, last-waiting, completed, Waiting, Level, Context, parenthesis, row, old-row, Nest, outermost, inside, context, waits, waiting, around, left-code, level-code, nest-code, join, leave, after-sum, after-product, after-atom, AtOperand, BehindAtom, BehindSum, InExpr, Used, behind-name, name-step}
-use Rattle.parse.specs.Reading.{Snap, Read, advanced, emitted, opened, closed, last-open}
+use Rattle.parse.specs.Reading.{Snap, Read, Paid, advanced, emitted, opened, closed, last-open}
 use Rattle.lang.specs.Syntax.{Expr, num, var, old, binary, index, old-index}
 use Rattle.lang.specs.Tokens.{Token, fixed, name, number, stray}
 use Rattle.parse.specs.Unbounded.{sum∞, sum-rest∞, product∞, product-rest∞, atom∞}
@@ -26,14 +27,25 @@ use Rattle.parse.specs.declared.expression.Step.the-variants.{Operand, Atom, D
 use Rattle.parse.specs.declared.open.Open.{Open}
 use Rattle.parse.specs.declared.open.Open.the-variants.{Paren, Index, OldIndex, Operator}
 use Rattle.lang.specs.declared.syntax.ArithOp.{ArithOp}
+use Rattle.lang.specs.declared.syntax.ArithOp.the-variants.{Add, Sub, Mul, Div, Rem}
+use Rattle.lang.specs.declared.token.Fixed.{Fixed}
 use Rattle.lang.specs.declared.token.Fixed.the-variants as the
 use Rattle.lang.proofs.Codes.{expr-front}
 use Rattle.parse.proofs.Heads.{fixed-ahead, starts-long}
+use Rattle.parse.proofs.Rooms.{paid-none, paid-then}
 use Rattle.parse.proofs.Rules.{sum-rule, sum-rest-rule, product-rule, product-rest-rule, atom-end, atom-fixed, atom-name, atom-number, atom-stray}
 
 pub >>=-assoc : {A B C : Type 0} (m : Option A) (f : A → Option B) (g : B → Option C) → ((m >>= f) >>= g) ≡ (m >>= λ x. f x >>= g)
 >>=-assoc None f g = refl
 >>=-assoc (Some x) f g = refl
+
+>>=-ext : {A B : Type 0} (m : Option A) {f g : A → Option B} → ((x : A) → f x ≡ g x) → (m >>= f) ≡ (m >>= g)
+>>=-ext None h = refl
+>>=-ext (Some x) h = h x
+
+>>=-some : {A : Type 0} (m : Option A) → (m >>= Some) ≡ m
+>>=-some None = refl
+>>=-some (Some x) = refl
 
 -- what stands last in the list of open parts
 last-is : (os : List Open) (o : Open) → last-open (os ++ o ∷ []) ≡ Some o
@@ -46,6 +58,42 @@ pub rest-is : (os : List Open) (o : Open) → take (length (os ++ o ∷ []) - 1)
 rest-is os o =
     let long : length (os ++ o ∷ []) - 1 ≡ length os = omega (arith, length-push os o) in
     rw long (take-at os (o ∷ []) (length os) refl)
+
+closed-short : (os : List Open) → length (take (length os - 1) os) ≤ length os
+closed-short os = omega (arith, length-take (length os - 1) os)
+
+closed-one : (os : List Open) → 0 < length os → length (take (length os - 1) os) + 1 ≡ length os
+closed-one os h = let fewer : length os - 1 ≤ length os = omega arith in omega (arith, length-take-le (length os - 1) os fewer)
+
+when-some : {A : Type 0} (b : Bool) (o : Option A) (x : A) → when b o ≡ Some x → b ≡ true
+when-some true o x e = refl
+when-some false o x e = cc
+
+pub completed-paid : (t : Bool) (base : ℕ) (s : Snap) → Paid s (completed t base s)
+completed-paid t base s = go (last-waiting t base (s .pending)) refl
+  where
+    go : (o : Option (ArithOp × Place)) → last-waiting t base (s .pending) ≡ o → Paid s (maybe o s λ w. emitted (instr.binary (w .0)) (closed s))
+    go None e = paid-none s
+    go (Some w) e =
+        let some : 0 < length (s .pending) = omega (arith, ltb-true base (length (s .pending)) (when-some (ltb base (length (s .pending))) (last-open (s .pending) >>= of-tier t) w e)) in
+        record { code = omega (arith, length-push (s .code) (instr.binary (w .0)), closed-one (s .pending) some); pending = omega (arith, closed-one (s .pending) some); code-room = refl; pending-room = refl }
+
+pub completed-ahead : (t : Bool) (base : ℕ) (s : Snap) → completed t base s .ahead ≡ s .ahead
+completed-ahead t base s = go (last-waiting t base (s .pending))
+  where
+    go : (o : Option (ArithOp × Place)) → (maybe o s λ w. emitted (instr.binary (w .0)) (closed s)) .ahead ≡ s .ahead
+    go None = refl
+    go (Some w) = refl
+
+pub both-ahead : (s t u : Snap) (base : ℕ) → t ≡ completed true base s → u ≡ completed false base t → u .ahead ≡ s .ahead
+both-ahead s t u base e f = ap (λ x. x .ahead) f ∙ completed-ahead false base t ∙ ap (λ x. x .ahead) e ∙ completed-ahead true base s
+
+-- after a step from s to t that reads nothing
+pub used-after : (s t u : Snap) (next : Step) → Paid s t → t .ahead ≡ s .ahead → Used t u next → Used s u next
+used-after s t u next p a h = record { paid = paid-then s t u p (h .paid); shorter = omega (arith, h .shorter, ap length a) }
+
+pub done-used : (s t : Snap) → Paid s t → t .ahead ≡ s .ahead → Used s t Done
+done-used s t p a = record { paid = p; shorter = omega (arith, ap length a) }
 
 last-waiting-push : (t : Bool) (base : ℕ) (os : List Open) (o : Open) → base ≤ length os → last-waiting t base (os ++ o ∷ []) ≡ of-tier t o
 last-waiting-push t base os o h =
@@ -105,6 +153,76 @@ named-used s us o i l = go (starts the.LeftBracket us) refl
     go : (b : Bool) → starts the.LeftBracket us ≡ b → Used s (cond b (advanced (opened o (at us s))) (emitted i (at us s))) (cond b Operand Atom)
     go true e = record { paid = record { code = omega (arith, length-push (s .pending) o, starts-long the.LeftBracket us e); pending = omega (arith, length-push (s .pending) o, starts-long the.LeftBracket us e); code-room = refl; pending-room = refl }; shorter = omega (arith, starts-long the.LeftBracket us e) }
     go false e = record { paid = record { code = omega (arith, length-push (s .code) i); pending = omega arith; code-room = refl; pending-room = refl }; shorter = omega arith }
+
+-- what closes a parenthesis or a row, and what comes of the sum inside
+abbrev closer : Context → Fixed
+closer parenthesis = the.RightParen
+closer (row p) = the.RightBracket
+closer (old-row p) = the.RightBracket
+
+abbrev wrapped : List ℕ → Context → Expr → Expr
+wrapped text parenthesis e = e
+wrapped text (row p) e = index (name-at text (p .0)) e
+wrapped text (old-row p) e = old-index (name-at text (p .0)) e
+
+abbrev closing : List ℕ → Context → List Instr
+closing text parenthesis = []
+closing text (row p) = instr.index (name-at text (p .0)) ∷ []
+closing text (old-row p) = instr.old-index (name-at text (p .0)) ∷ []
+
+leave-is : (text : List ℕ) (c : Context) (e : Expr) (ts : List Token) → leave text c e ts ≡ (expect (closer c) ts >>= λ us. Some (wrapped text c e, us))
+leave-is text parenthesis e ts = refl
+leave-is text (row p) e ts = refl
+leave-is text (old-row p) e ts = refl
+
+wrapped-code : (text : List ℕ) (c : Context) (e : Expr) → code-expr (wrapped text c e) [] ≡ code-expr e [] ++ closing text c
+unfolding code-expr
+wrapped-code text parenthesis e = sym (append-nil (code-expr e []))
+wrapped-code text (row p) e = expr-front e .splits (instr.index (name-at text (p .0)) ∷ [])
+wrapped-code text (old-row p) e = expr-front e .splits (instr.old-index (name-at text (p .0)) ∷ [])
+
+context-injective : (c d : Context) → context c ≡ context d → c ≡ d
+context-injective parenthesis parenthesis e = refl
+context-injective parenthesis (row q) e = cc
+context-injective parenthesis (old-row q) e = cc
+context-injective (row p) parenthesis e = cc
+context-injective (row p) (row q) e = cc
+context-injective (row p) (old-row q) e = cc
+context-injective (old-row p) parenthesis e = cc
+context-injective (old-row p) (row q) e = cc
+context-injective (old-row p) (old-row q) e = cc
+
+pub no-context : (o : Open) → (o ≡ Paren → ⊥) → ((p : Place) → o ≡ Index p → ⊥) → ((p : Place) → o ≡ OldIndex p → ⊥) → (c : Context) → o ≡ context c → ⊥
+no-context o f g h parenthesis e = f e
+no-context o f g h (row p) e = g p e
+no-context o f g h (old-row p) e = h p e
+
+pub left-used : (s : Snap) → length (onward (s .ahead)) < length (s .ahead) → Used s (advanced (closed s)) Atom
+left-used s l = record { paid = record { code = omega (arith, closed-short (s .pending)); pending = omega (arith, closed-short (s .pending)); code-room = refl; pending-room = refl }; shorter = omega arith }
+
+pub left-row-used : (s : Snap) (i : Instr) → length (onward (s .ahead)) < length (s .ahead) → Used s (emitted i (advanced (closed s))) Atom
+left-row-used s i l = record { paid = record { code = omega (arith, closed-short (s .pending), length-push (s .code) i); pending = omega (arith, closed-short (s .pending)); code-room = refl; pending-room = refl }; shorter = omega arith }
+
+-- An operator by the first token.
+pub multiplicative-tight : (ts : List Token) (o : ArithOp) → multiplicative ts ≡ Some o → (tight o ≡ true) × (length ts ≡ 1 + length (onward ts))
+multiplicative-tight ts o h = go (starts the.Times ts) (starts the.Over ts) (starts the.Percent ts) refl refl refl h
+  where
+    go : (a b c : Bool) → starts the.Times ts ≡ a → starts the.Over ts ≡ b → starts the.Percent ts ≡ c → cond a (Some Mul) (cond b (Some Div) (cond c (Some Rem) None)) ≡ Some o → (tight o ≡ true) × (length ts ≡ 1 + length (onward ts))
+    go true b c p q r h = let e : Mul ≡ o = cc in (rw (← e), starts-long the.Times ts p)
+    go false true c p q r h = let e : Div ≡ o = cc in (rw (← e), starts-long the.Over ts q)
+    go false false true p q r h = let e : Rem ≡ o = cc in (rw (← e), starts-long the.Percent ts r)
+    go false false false p q r h = let z : _≡_ {A = ℕ} 0 1 = cc in absurd (omega arith)
+
+pub additive-loose : (ts : List Token) (o : ArithOp) → additive ts ≡ Some o → (tight o ≡ false) × (length ts ≡ 1 + length (onward ts))
+additive-loose ts o h = go (starts the.Plus ts) (starts the.Minus ts) refl refl h
+  where
+    go : (a b : Bool) → starts the.Plus ts ≡ a → starts the.Minus ts ≡ b → cond a (Some Add) (cond b (Some Sub) None) ≡ Some o → (tight o ≡ false) × (length ts ≡ 1 + length (onward ts))
+    go true b p q h = let e : Add ≡ o = cc in (rw (← e), starts-long the.Plus ts p)
+    go false true p q h = let e : Sub ≡ o = cc in (rw (← e), starts-long the.Minus ts q)
+    go false false p q h = let z : _≡_ {A = ℕ} 0 1 = cc in absurd (omega arith)
+
+pub operator-used : (s : Snap) (o : Open) → length (s .ahead) ≡ 1 + length (onward (s .ahead)) → Used s (advanced (opened o s)) Operand
+operator-used s o l = record { paid = record { code = omega (arith, length-push (s .pending) o, l); pending = omega (arith, length-push (s .pending) o, l); code-room = refl; pending-room = refl }; shorter = omega (arith, l) }
 
 -- nothing waits on a level that has just begun
 abbrev fresh : Level
@@ -339,3 +457,49 @@ module _ (text : List ℕ) (before : Snap) where
   -- neither a number nor a name, nor what else can begin an atom
   pub no-operand : (s : Snap) → AtOperand text before s → starts the.LeftParen (s .ahead) ≡ false → starts the.Old (s .ahead) ≡ false → a-name (s .ahead) ≡ None → a-number (s .ahead) ≡ None → sum∞ (before .ahead) ≡ None
   no-operand s h p o x n = operand-none s h (no-atom (s .ahead) p o x n)
+
+  -- out of a parenthesis or a row
+  leaves : (s : Snap) (c : Context) (us : List Token) → BehindSum text before s → length (before .pending) < length (s .pending) → Some (context c) ≡ last-open (s .pending) → expect (closer c) (s .ahead) ≡ Some us → BehindAtom text before (record { code = s .code ++ closing text c; pending = closed s .pending; ahead = us; code-room = s .code-room; pending-room = s .pending-room })
+  leaves s c us h l o e =
+      let i = inside-of s h l in
+      let into = context-injective (i .into) c (into-is s i (context c) o) in
+      left s i (wrapped text c (i .value)) us (closing text c) (ap (λ x. leave text x (i .value) (s .ahead)) into ∙ leave-is text c (i .value) (s .ahead) ∙ rw e) (wrapped-code text c (i .value))
+
+  pub leaves-not : (s : Snap) (c : Context) → BehindSum text before s → length (before .pending) < length (s .pending) → Some (context c) ≡ last-open (s .pending) → expect (closer c) (s .ahead) ≡ None → sum∞ (before .ahead) ≡ None
+  leaves-not s c h l o e =
+      let i = inside-of s h l in
+      let into = context-injective (i .into) c (into-is s i (context c) o) in
+      not-left s i (ap (λ x. leave text x (i .value) (s .ahead)) into ∙ leave-is text c (i .value) (s .ahead) ∙ rw e)
+
+  pub leaves-paren : (s : Snap) → BehindSum text before s → length (before .pending) < length (s .pending) → Some Paren ≡ last-open (s .pending) → expect the.RightParen (s .ahead) ≡ Some (onward (s .ahead)) → BehindAtom text before (advanced (closed s))
+  leaves-paren s h l o e = subst (λ k. BehindAtom text before (record { code = k; pending = closed s .pending; ahead = onward (s .ahead); code-room = s .code-room; pending-room = s .pending-room })) (append-nil (s .code)) (leaves s parenthesis (onward (s .ahead)) h l o e)
+
+  pub leaves-row : (s : Snap) (p : Place) → BehindSum text before s → length (before .pending) < length (s .pending) → Some (Index p) ≡ last-open (s .pending) → expect the.RightBracket (s .ahead) ≡ Some (onward (s .ahead)) → BehindAtom text before (emitted (instr.index (name-at text (p .0))) (advanced (closed s)))
+  leaves-row s p h l o e = leaves s (row p) (onward (s .ahead)) h l o e
+
+  pub leaves-old-row : (s : Snap) (p : Place) → BehindSum text before s → length (before .pending) < length (s .pending) → Some (OldIndex p) ≡ last-open (s .pending) → expect the.RightBracket (s .ahead) ≡ Some (onward (s .ahead)) → BehindAtom text before (emitted (instr.old-index (name-at text (p .0))) (advanced (closed s)))
+  leaves-old-row s p h l o e = leaves s (old-row p) (onward (s .ahead)) h l o e
+
+  -- nothing else has an expression inside
+  pub leaves-nothing : (s : Snap) → BehindSum text before s → length (before .pending) < length (s .pending) → ((c : Context) → Some (context c) ≡ last-open (s .pending) → ⊥) → sum∞ (before .ahead) ≡ None
+  leaves-nothing s h l no-one =
+      let i = inside-of s h l in
+      absurd (no-one (i .into) (sym (ap last-open (i .pending) ∙ last-is (before .pending ++ (around (i .nest) ++ waiting (i .level))) (context (i .into)))))
+
+  -- behind an atom, once what it completes is written
+  pub lone-atom : (s t : Snap) (base : ℕ) → base ≡ length (before .pending) → t ≡ completed true base s → BehindAtom text before s → LoneAtom t
+  lone-atom s t base b e h = subst LoneAtom (ap (λ n. completed true n s) (sym b) ∙ sym e) (product-done s h)
+
+  pub lone-sum : (s t u : Snap) (base : ℕ) → base ≡ length (before .pending) → t ≡ completed true base s → u ≡ completed false base t → None ≡ multiplicative (t .ahead) → BehindAtom text before s → LoneSum u
+  lone-sum s t u base b e f m h = subst LoneSum (ap (λ n. completed false n t) (sym b) ∙ sym f) (sum-done t (product-ends t (lone-atom s t base b e h) (sym m)))
+
+-- an expression begins
+pub begun : (text : List ℕ) (s : Snap) → AtOperand text s s
+unfolding after-sum
+begun text s = record {
+  level = fresh;
+  nest = outermost;
+  pending = sym (append-nil (s .pending));
+  code = sym (append-nil (s .code));
+  rest = rw (sum-rule (s .ahead), product-rule (s .ahead)) (>>=-assoc (atom∞ (s .ahead)) _ _ ∙ >>=-ext (atom∞ (s .ahead)) (λ p. >>=-ext (product-rest∞ (p .0) (p .1)) (λ q. sym (>>=-some (sum-rest∞ (q .0) (q .1))))));
+}

@@ -1,13 +1,18 @@
 // Reads an expression. What nests is kept in a table and not on the machine's stack.
+ghost use mathlib.Core.List.{[]};
 ghost use mathlib.Core.Path.{_≡_};
 ghost use Prim.Native.Nat.{_<_};
 ghost use lib.ListN.{length};
 ghost use mathlib.Core.Bool.{true};
+ghost use Rattle.std.specs.Results.{Cases};
 ghost use Rattle.std.specs.Vec.{made};
-ghost use Rattle.lang.specs.Grammar.{starts};
+ghost use Rattle.std.specs.declared.option.Option.the-variants.{None};
+ghost use Rattle.parse.specs.Unbounded.{sum∞};
+ghost use Rattle.lang.specs.Code.{code-expr};
+ghost use Rattle.lang.specs.Grammar.{starts, additive, multiplicative};
 ghost use Rattle.lang.specs.Instr.{instr};
-ghost use Rattle.parse.specs.InExpr.{tight, AtOperand, Steps, Used, behind-name, name-step, last-waiting, completed};
-ghost use Rattle.parse.specs.Reading.{snap, Room};
+ghost use Rattle.parse.specs.InExpr.{tight, AtOperand, BehindAtom, BehindSum, InExpr, Steps, Used, behind-name, name-step, last-waiting, completed};
+ghost use Rattle.parse.specs.Reading.{Snap, snap, Room, Read, Paid};
 ghost use Rattle.lang.specs.declared.token.Fixed.the-variants.{Old};
 use lang::code::Node;
 use lang::code::Place;
@@ -111,11 +116,107 @@ impl<'s, 'a> Reader<'s, 'a> {
     // Writes that operator.
     fn complete(&mut self, text: &[u8], base: usize, tight: bool)
         requires { ⌜ Room (snap (now text) (now self)) ⌝ }
-        ensures { λ _. ⌜ snap (now (text .entry)) (now (self .exit)) ≡ completed tight base (snap (now (text .entry)) (now (self .entry))) ⌝ }
+        ensures after { λ _. ⌜ snap (now (text .entry)) (now (self .exit)) ≡ completed tight base (snap (now (text .entry)) (now (self .entry))) ⌝ }
+        ensures paid { λ _. ⌜ Paid (snap (now (text .entry)) (now (self .entry))) (snap (now (text .entry)) (now (self .exit))) ⌝ }
     {
         if let Some((op, place)) = self.last_waiting(text, base, tight) {
             let _ = self.finish(text);
             self.emit(text, Node::Binary(op, place));
+        }
+    }
+
+    // The operator of a product that is at hand.
+    fn multiplicative(&self, text: &[u8]) -> Option<ArithOp>
+        ensures { λ r. ⌜ r ≡ multiplicative (snap (now (text .entry)) (now (self .entry)) .ahead) ⌝ }
+    {
+        if self.at(text, Fixed::Times) {
+            Some(ArithOp::Mul)
+        } else if self.at(text, Fixed::Over) {
+            Some(ArithOp::Div)
+        } else if self.at(text, Fixed::Percent) {
+            Some(ArithOp::Rem)
+        } else {
+            None
+        }
+    }
+
+    // The operator of a sum that is at hand.
+    fn additive(&self, text: &[u8]) -> Option<ArithOp>
+        ensures { λ r. ⌜ r ≡ additive (snap (now (text .entry)) (now (self .entry)) .ahead) ⌝ }
+    {
+        if self.at(text, Fixed::Plus) {
+            Some(ArithOp::Add)
+        } else if self.at(text, Fixed::Minus) {
+            Some(ArithOp::Sub)
+        } else {
+            None
+        }
+    }
+
+    // Behind a whole sum inside a parenthesis or a row: out of it.
+    fn leave(&mut self, text: &[u8]) -> Result<Step, NoText>
+        requires { ⌜ Room (snap (now text) (now self)) ⌝ }
+        ensures reads { λ r. ⌜ ((before : Snap) → length (before .pending) < length (snap (now (text .entry)) (now (self .entry)) .pending) → BehindSum (now (text .entry)) before (snap (now (text .entry)) (now (self .entry))) → Cases r (λ next. InExpr (now (text .entry)) before (snap (now (text .entry)) (now (self .exit))) next) (λ _. sum∞ (before .ahead) ≡ None)) ⌝ }
+        ensures used { λ r. ⌜ made r (λ next. Used (snap (now (text .entry)) (now (self .entry))) (snap (now (text .entry)) (now (self .exit))) next) ⌝ }
+    {
+        let Some(part) = self.finish(text) else {
+            return Err(self.missing(Expected::Operand));
+        };
+        match part {
+            Open::Paren => self.expect(text, Fixed::RightParen)?,
+            Open::Index(place) => {
+                self.expect(text, Fixed::RightBracket)?;
+                self.emit(text, Node::Index(place));
+            }
+            Open::OldIndex(place) => {
+                self.expect(text, Fixed::RightBracket)?;
+                self.emit(text, Node::OldIndex(place));
+            }
+            // Nothing else has an expression inside.
+            _ => return Err(self.missing(Expected::Operand)),
+        }
+        Ok(Step::Atom)
+    }
+
+    // Behind an atom: the operators that it completes are written; then another operator, or the end of what it stands in.
+    fn operator(&mut self, text: &[u8], base: usize) -> Result<Step, NoText>
+        requires { ⌜ Room (snap (now text) (now self)) ⌝ }
+        ensures reads { λ r. ⌜ ((before : Snap) → base ≡ length (before .pending) → BehindAtom (now (text .entry)) before (snap (now (text .entry)) (now (self .entry))) → Cases r (λ next. InExpr (now (text .entry)) before (snap (now (text .entry)) (now (self .exit))) next) (λ _. sum∞ (before .ahead) ≡ None)) ⌝ }
+        ensures used { λ r. ⌜ made r (λ next. Used (snap (now (text .entry)) (now (self .entry))) (snap (now (text .entry)) (now (self .exit))) next) ⌝ }
+    {
+        self.complete(text, base, true);
+        let place = Place(self.cursor.start);
+        if let Some(op) = self.multiplicative(text) {
+            self.begin(text, Open::Operator(op, place));
+            self.advance(text);
+            return Ok(Step::Operand);
+        }
+        self.complete(text, base, false);
+        if let Some(op) = self.additive(text) {
+            self.begin(text, Open::Operator(op, place));
+            self.advance(text);
+            return Ok(Step::Operand);
+        }
+        if self.height(text) <= base {
+            return Ok(Step::Done);
+        }
+        self.leave(text)
+    }
+
+    // An expression, with its code behind what was written before.
+    pub fn expression(&mut self, text: &[u8]) -> Result<(), NoText>
+        requires { ⌜ Room (snap (now text) (now self)) ⌝ }
+        ensures reads { λ r. ⌜ Cases r (λ _. Read sum∞ (λ e. code-expr e []) (snap (now (text .entry)) (now (self .entry))) (snap (now (text .entry)) (now (self .exit)))) (λ _. sum∞ (snap (now (text .entry)) (now (self .entry)) .ahead) ≡ None) ⌝ }
+        ensures paid { λ r. ⌜ made r (λ _. Paid (snap (now (text .entry)) (now (self .entry))) (snap (now (text .entry)) (now (self .exit)))) ⌝ }
+    {
+        let base = self.height(text);
+        let mut next = Step::Operand;
+        'steps: loop {
+            next = match next {
+                Step::Operand => self.operand(text)?,
+                Step::Atom => self.operator(text, base)?,
+                Step::Done => return Ok(()),
+            };
         }
     }
 }
