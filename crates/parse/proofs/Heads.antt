@@ -65,3 +65,16 @@ expect-long f ts us h = go (starts f ts) refl h
     go : (b : Bool) → starts f ts ≡ b → when b (Some (onward ts)) ≡ Some us → length ts ≡ 1 + length us
     go true e h = let same : onward ts ≡ us = cc in omega (arith, starts-long f ts e, ap length same)
     go false e h = let z : _≡_ {A = ℕ} 0 1 = cc in absurd (omega arith)
+
+pub name-long : (ts us : List Token) (x : Word) → a-name ts ≡ Some (x, us) → length ts ≡ 1 + length (onward ts)
+name-long ts us x h = let e = name-ahead ts us x h in rw e (omega arith)
+
+pub number-long : (ts us : List Token) (n : ℕ) → a-number ts ≡ Some (n, us) → length ts ≡ 1 + length (onward ts)
+number-long ts us n h = let e = number-ahead ts us n h in rw e (omega arith)
+
+pub expect-starts : (f : Fixed) (ts us : List Token) → expect f ts ≡ Some us → length ts ≡ 1 + length (onward ts)
+expect-starts f ts us h = go (starts f ts) refl h
+  where
+    go : (b : Bool) → starts f ts ≡ b → when b (Some (onward ts)) ≡ Some us → length ts ≡ 1 + length (onward ts)
+    go true e h = starts-long f ts e
+    go false e h = let z : _≡_ {A = ℕ} 0 1 = cc in absurd (omega arith)

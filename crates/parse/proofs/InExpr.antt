@@ -31,21 +31,10 @@ use Rattle.lang.specs.declared.syntax.ArithOp.the-variants.{Add, Sub, Mul, Div,
 use Rattle.lang.specs.declared.token.Fixed.{Fixed}
 use Rattle.lang.specs.declared.token.Fixed.the-variants as the
 use Rattle.lang.proofs.Codes.{expr-front}
+use Rattle.parse.proofs.Binds.{>>=-assoc, >>=-ext, >>=-some}
 use Rattle.parse.proofs.Heads.{fixed-ahead, starts-long}
 use Rattle.parse.proofs.Rooms.{paid-none, paid-then}
 use Rattle.parse.proofs.Rules.{sum-rule, sum-rest-rule, product-rule, product-rest-rule, atom-end, atom-fixed, atom-name, atom-number, atom-stray}
-
-pub >>=-assoc : {A B C : Type 0} (m : Option A) (f : A → Option B) (g : B → Option C) → ((m >>= f) >>= g) ≡ (m >>= λ x. f x >>= g)
->>=-assoc None f g = refl
->>=-assoc (Some x) f g = refl
-
->>=-ext : {A B : Type 0} (m : Option A) {f g : A → Option B} → ((x : A) → f x ≡ g x) → (m >>= f) ≡ (m >>= g)
->>=-ext None h = refl
->>=-ext (Some x) h = h x
-
->>=-some : {A : Type 0} (m : Option A) → (m >>= Some) ≡ m
->>=-some None = refl
->>=-some (Some x) = refl
 
 -- what stands last in the list of open parts
 last-is : (os : List Open) (o : Open) → last-open (os ++ o ∷ []) ≡ Some o

@@ -1,7 +1,11 @@
 pub mod Shorter
 pub mod Stable
 pub mod Rules
+pub mod Binds
 pub mod Heads
 pub mod Snaps
 pub mod Rooms
 pub mod InExpr
+pub mod Listed
+pub mod Args
+pub mod Declaring

@@ -1,7 +1,7 @@
 -- What is read leaves fewer tokens.
 use mathlib.Core.Bool.{Bool, true, false, cond}
 use mathlib.Core.List.{List, [], _∷_}
-use mathlib.Core.Path.{_≡_, refl}
+use mathlib.Core.Path.{_≡_, refl, subst}
 use Prim.Native.Nat.{ℕ, zero, suc, _<_, _≤_}
 use native.Mathlib.Omega.{arith}
 use lib.Dec.{eqb}
@@ -24,6 +24,14 @@ pub data Each {A : Type 0} (P : A → Type 0) : Option A → Type 0 where
 pub each-map : {A : Type 0} {P Q : A → Type 0} {o : Option A} → ((x : A) → P x → Q x) → Each P o → Each Q o
 each-map h none = none
 each-map h (some p) = some (h _ p)
+
+pub each-any : {A : Type 0} (o : Option A) → Each (λ _. Unit {0}) o
+each-any None = none
+each-any (Some x) = some tt
+
+pub each-at : {A : Type 0} {P : A → Type 0} {o : Option A} {x : A} → Each P o → o ≡ Some x → P x
+each-at none e = let z : _≡_ {A = ℕ} 0 1 = cc in absurd (omega arith)
+each-at {P} {x} (some {x = y} p) e = let same : y ≡ x = cc in subst P same p
 
 pub each-bind : {A B : Type 0} {P : A → Type 0} {Q : B → Type 0} {o : Option A} {f : A → Option B} → Each P o → ((x : A) → P x → Each Q (f x)) → Each Q (o >>= f)
 each-bind none h = none

@@ -3,3 +3,5 @@ pub mod Layout
 pub mod Unbounded
 pub mod Reading
 pub mod InExpr
+pub mod Listed
+pub mod Declaring

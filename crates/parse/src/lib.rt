@@ -1,6 +1,9 @@
 // From a text to a program in lent words.
 
+pub mod declarations;
 pub mod expression;
+pub mod formula;
+pub mod names;
 pub mod open;
 pub mod reader;
 pub mod refusal;
