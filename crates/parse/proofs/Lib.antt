@@ -9,3 +9,6 @@ pub mod InExpr
 pub mod Listed
 pub mod Args
 pub mod Declaring
+pub mod Headed
+pub mod Clauses
+pub mod Plain

@@ -4,4 +4,5 @@ pub mod Unbounded
 pub mod Reading
 pub mod InExpr
 pub mod Listed
+pub mod Parts
 pub mod Declaring

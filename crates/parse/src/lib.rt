@@ -5,5 +5,7 @@ pub mod expression;
 pub mod formula;
 pub mod names;
 pub mod open;
+pub mod parts;
 pub mod reader;
 pub mod refusal;
+pub mod simple;

@@ -1,7 +1,7 @@
 // A reader: where it is in the text, the code that it has written, and what is open.
 ghost use mathlib.Core.Path.{_≡_};
 ghost use mathlib.Core.List.{_++_};
-ghost use Prim.Native.Nat.{_<_};
+ghost use Prim.Native.Nat.{_+_, _-_, _<_};
 ghost use lib.ListN.{length};
 ghost use Rattle.std.specs.Results.{Cases};
 ghost use Rattle.std.specs.Vec.{listOf};
@@ -34,6 +34,13 @@ impl<'s, 'a> Reader<'s, 'a> {
         ensures { λ r. ⌜ r ≡ length (snap (now (text .entry)) (now (self .entry)) .code) ⌝ }
     {
         self.code.len()
+    }
+
+    // How many nodes stand behind the one at `at`.
+    pub fn behind(&self, text: &[u8], at: usize) -> usize
+        ensures { λ r. ⌜ r ≡ length (snap (now (text .entry)) (now (self .entry)) .code) - (at + 1) ⌝ }
+    {
+        self.written(text).saturating_sub(at).saturating_sub(1)
     }
 
     // How many parts are open.
