@@ -12,3 +12,4 @@ pub mod Declaring
 pub mod Headed
 pub mod Clauses
 pub mod Plain
+pub mod InBlock

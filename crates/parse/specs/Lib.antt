@@ -5,4 +5,5 @@ pub mod Reading
 pub mod InExpr
 pub mod Listed
 pub mod Parts
+pub mod InBlock
 pub mod Declaring

@@ -9,3 +9,4 @@ pub mod parts;
 pub mod reader;
 pub mod refusal;
 pub mod simple;
+pub mod statements;

@@ -1,0 +1,102 @@
+// Reads blocks of statements. Blocks that nest are kept in a table and not on the machine's stack.
+ghost use mathlib.Core.Bool.{true, false};
+ghost use mathlib.Core.List.{[]};
+ghost use mathlib.Core.Path.{_≡_};
+ghost use Prim.Native.Nat.{_<_};
+ghost use lib.ListN.{length};
+ghost use Rattle.std.specs.Results.{Cases};
+ghost use Rattle.std.specs.Vec.{made};
+ghost use Rattle.std.specs.declared.option.Option.the-variants.{Some, None};
+ghost use Rattle.lang.specs.Instr.{instr};
+ghost use Rattle.lang.specs.Code.{code-block};
+ghost use Rattle.lang.specs.Grammar.{starts, onward, expect};
+ghost use Rattle.lang.specs.declared.token.Fixed.the-variants as the;
+ghost use Rattle.parse.specs.InBlock.{AtStatement, Headed, Closed, then-code, loop-code, kind-instr, kind-part, block-opened};
+ghost use Rattle.parse.specs.Reading.{Snap, snap, Room, Read, Paid};
+ghost use Rattle.parse.specs.Unbounded.{if-head∞, while-head∞, block∞};
+ghost use Rattle.parse.specs.declared.statements.Kind.the-variants.{Then, Do};
+use crate::open::Open;
+use crate::parts::Part;
+use crate::reader::Reader;
+use crate::refusal::Expected;
+use crate::refusal::NoText;
+use lang::code::Node;
+use lang::code::Place;
+use lang::token::Fixed;
+use lang::token::Token;
+
+// A block inside a statement.
+#[derive(Clone, Copy)]
+pub enum Kind {
+    Then,
+    Else,
+    Do,
+}
+
+impl Kind {
+    // The node that has the block's length.
+    fn node(self, length: usize, text: &[u8]) -> Node
+        ensures { λ r. ⌜ instr (now (text .entry)) r ≡ kind-instr self «length» ⌝ }
+    {
+        match self {
+            Kind::Then => Node::Then(length),
+            Kind::Else => Node::Else(length),
+            Kind::Do => Node::Do(length),
+        }
+    }
+
+    fn part(self, at: usize) -> Open
+        ensures { λ r. ⌜ r ≡ kind-part self at ⌝ }
+    {
+        match self {
+            Kind::Then => Open::Then(at),
+            Kind::Else => Open::Else(at),
+            Kind::Do => Open::Do(at),
+        }
+    }
+}
+
+impl<'s, 'a> Reader<'s, 'a> {
+    // Past the brace of a block, which is open from now on.
+    fn open_block(&mut self, text: &[u8], kind: Kind) -> Result<(), NoText>
+        requires { ⌜ Room (snap (now text) (now self)) ⌝ }
+        ensures reads { λ r. ⌜ Cases r (λ _. (expect the.LeftBrace (snap (now (text .entry)) (now (self .entry)) .ahead) ≡ Some (snap (now (text .entry)) (now (self .exit)) .ahead)) × (snap (now (text .entry)) (now (self .exit)) ≡ block-opened kind (snap (now (text .entry)) (now (self .entry))))) (λ _. expect the.LeftBrace (snap (now (text .entry)) (now (self .entry)) .ahead) ≡ None) ⌝ }
+        ensures paid { λ r. ⌜ made r (λ _. Paid (snap (now (text .entry)) (now (self .entry))) (snap (now (text .entry)) (now (self .exit)))) ⌝ }
+    {
+        self.expect(text, Fixed::LeftBrace)?;
+        let at = self.written(text);
+        self.emit(text, kind.node(0, text));
+        self.begin(text, kind.part(at));
+        Ok(())
+    }
+
+    // if b {
+    fn if_head(&mut self, text: &[u8]) -> Result<(), NoText>
+        requires room { ⌜ Room (snap (now text) (now self)) ⌝ }
+        requires first { ⌜ starts the.If (snap (now text) (now self) .ahead) ≡ true ⌝ }
+        ensures reads { λ r. ⌜ Cases r (λ _. Headed (λ ts. if-head∞ (onward ts)) then-code Then (snap (now (text .entry)) (now (self .entry))) (snap (now (text .entry)) (now (self .exit)))) (λ _. if-head∞ (onward (snap (now (text .entry)) (now (self .entry)) .ahead)) ≡ None) ⌝ }
+        ensures paid { λ r. ⌜ made r (λ _. Paid (snap (now (text .entry)) (now (self .entry))) (snap (now (text .entry)) (now (self .exit)))) ⌝ }
+    {
+        self.emit(text, Node::If(Place(self.cursor.start)));
+        self.advance(text);
+        self.formula(text)?;
+        self.open_block(text, Kind::Then)?;
+        Ok(())
+    }
+
+    // while b keep b; less e; {
+    fn while_head(&mut self, text: &[u8]) -> Result<(), NoText>
+        requires room { ⌜ Room (snap (now text) (now self)) ⌝ }
+        requires first { ⌜ starts the.While (snap (now text) (now self) .ahead) ≡ true ⌝ }
+        ensures reads { λ r. ⌜ Cases r (λ _. Headed (λ ts. while-head∞ (onward ts)) loop-code Do (snap (now (text .entry)) (now (self .entry))) (snap (now (text .entry)) (now (self .exit)))) (λ _. while-head∞ (onward (snap (now (text .entry)) (now (self .entry)) .ahead)) ≡ None) ⌝ }
+        ensures paid { λ r. ⌜ made r (λ _. Paid (snap (now (text .entry)) (now (self .entry))) (snap (now (text .entry)) (now (self .exit)))) ⌝ }
+    {
+        self.emit(text, Node::While(Place(self.cursor.start)));
+        self.advance(text);
+        self.part(text, Part::Test)?;
+        self.condition(text, Fixed::Keep, Part::Invariant)?;
+        self.measured(text)?;
+        self.open_block(text, Kind::Do)?;
+        Ok(())
+    }
+}
