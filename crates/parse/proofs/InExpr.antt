@@ -37,7 +37,7 @@ use Rattle.parse.proofs.Rooms.{paid-none, paid-then}
 use Rattle.parse.proofs.Rules.{sum-rule, sum-rest-rule, product-rule, product-rest-rule, atom-end, atom-fixed, atom-name, atom-number, atom-stray}
 
 -- what stands last in the list of open parts
-last-is : (os : List Open) (o : Open) → last-open (os ++ o ∷ []) ≡ Some o
+pub last-is : (os : List Open) (o : Open) → last-open (os ++ o ∷ []) ≡ Some o
 last-is os o =
     let long : length (os ++ o ∷ []) - 1 ≡ length os = omega (arith, length-push os o) in
     let end : length os < length (os ++ o ∷ []) = omega (arith, length-push os o) in
@@ -48,13 +48,13 @@ rest-is os o =
     let long : length (os ++ o ∷ []) - 1 ≡ length os = omega (arith, length-push os o) in
     rw long (take-at os (o ∷ []) (length os) refl)
 
-closed-short : (os : List Open) → length (take (length os - 1) os) ≤ length os
+pub closed-short : (os : List Open) → length (take (length os - 1) os) ≤ length os
 closed-short os = omega (arith, length-take (length os - 1) os)
 
-closed-one : (os : List Open) → 0 < length os → length (take (length os - 1) os) + 1 ≡ length os
+pub closed-one : (os : List Open) → 0 < length os → length (take (length os - 1) os) + 1 ≡ length os
 closed-one os h = let fewer : length os - 1 ≤ length os = omega arith in omega (arith, length-take-le (length os - 1) os fewer)
 
-when-some : {A : Type 0} (b : Bool) (o : Option A) (x : A) → when b o ≡ Some x → b ≡ true
+pub when-some : {A : Type 0} (b : Bool) (o : Option A) (x : A) → when b o ≡ Some x → b ≡ true
 when-some true o x e = refl
 when-some false o x e = cc
 

@@ -6,6 +6,7 @@ pub mod Heads
 pub mod Snaps
 pub mod Rooms
 pub mod InExpr
+pub mod InBool
 pub mod Listed
 pub mod Args
 pub mod Declaring

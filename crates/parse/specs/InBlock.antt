@@ -2,7 +2,7 @@
 use mathlib.Core.Bool.{Bool, true, false}
 use mathlib.Core.List.{List, [], _∷_, _++_}
 use mathlib.Core.Path.{_≡_}
-use Prim.Native.Nat.{ℕ, _+_}
+use Prim.Native.Nat.{ℕ, _+_, _-_}
 use lib.ListN.{length}
 use Rattle.std.specs.declared.option.Option.the-variants.{Some}
 use Rattle.lang.specs.Base.{_>>=_}
@@ -14,7 +14,7 @@ use Rattle.lang.specs.Syntax.{BoolExpr, Stmt, branch, loop, Block, end, seq}
 use Rattle.lang.specs.Tokens.{Token}
 use Rattle.parse.specs.Listed.{codes}
 use Rattle.parse.specs.Parts.{part-code, measure-code}
-use Rattle.parse.specs.Reading.{Snap, Read, advanced, emitted, opened}
+use Rattle.parse.specs.Reading.{Snap, Read, advanced, emitted, opened, patched}
 use Rattle.parse.specs.Unbounded.{block∞}
 use Rattle.parse.specs.declared.open.Open.{Open}
 use Rattle.parse.specs.declared.open.Open.the-variants.{Then, Else, Do}
@@ -89,6 +89,15 @@ pub record AtStatement (before s : Snap) : Type 0 where
     (c, us) ← block∞ (s .ahead)
     after-block nest (listed read c) us)
 
+-- The brace behind the last statement has been read.
+pub record BlockWhole (before s : Snap) : Type 0 where
+  pub read : List Stmt
+  pub nest : Nest
+  pub placed : Placed (length (before .code)) nest
+  pub pending : s .pending ≡ before .pending ++ around nest
+  pub code : s .code ≡ before .code ++ (nest-code nest ++ codes code-stmt read)
+  pub rest : block∞ (before .ahead) ≡ after-block nest (listed read end) (s .ahead)
+
 -- The three kinds of blocks inside statements: the instruction with the block's length, and the part that is open.
 abbrev pub kind-instr : Kind → ℕ → Instr
 kind-instr kind.Then n = instr.then n
@@ -103,6 +112,10 @@ kind-part kind.Do n = Do n
 -- where a block of that kind has been opened
 abbrev pub block-opened : Kind → Snap → Snap
 block-opened k s = opened (kind-part k (length (s .code))) (emitted (kind-instr k 0) (advanced s))
+
+-- where the length of such a block has been written
+abbrev pub sealed : Kind → ℕ → Snap → Snap
+sealed k at s = patched at (kind-instr k (length (s .code) - (at + 1))) s
 
 -- A head has been read up to the brace of its block, which is open now.
 pub record Headed {A : Type 0} (parse : List Token → Parsed A) (code-of : A → List Instr) (kind : Kind) (before after : Snap) : Type 0 where

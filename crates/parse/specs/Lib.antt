@@ -3,6 +3,7 @@ pub mod Layout
 pub mod Unbounded
 pub mod Reading
 pub mod InExpr
+pub mod InBool
 pub mod Listed
 pub mod Parts
 pub mod InBlock

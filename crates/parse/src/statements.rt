@@ -2,19 +2,19 @@
 ghost use mathlib.Core.Bool.{true, false};
 ghost use mathlib.Core.List.{[]};
 ghost use mathlib.Core.Path.{_≡_};
-ghost use Prim.Native.Nat.{_<_};
+ghost use Prim.Native.Nat.{_<_, _≤_};
 ghost use lib.ListN.{length};
 ghost use Rattle.std.specs.Results.{Cases};
 ghost use Rattle.std.specs.Vec.{made};
 ghost use Rattle.std.specs.declared.option.Option.the-variants.{Some, None};
 ghost use Rattle.lang.specs.Instr.{instr};
 ghost use Rattle.lang.specs.Code.{code-block};
-ghost use Rattle.lang.specs.Grammar.{starts, onward, expect};
+ghost use Rattle.lang.specs.Grammar.{starts, onward, expect, else-head};
 ghost use Rattle.lang.specs.declared.token.Fixed.the-variants as the;
-ghost use Rattle.parse.specs.InBlock.{AtStatement, Headed, Closed, then-code, loop-code, kind-instr, kind-part, block-opened};
-ghost use Rattle.parse.specs.Reading.{Snap, snap, Room, Read, Paid};
+ghost use Rattle.parse.specs.InBlock.{AtStatement, BlockWhole, sealed, Headed, Closed, then-code, loop-code, kind-instr, kind-part, block-opened};
+ghost use Rattle.parse.specs.Reading.{Snap, snap, advanced, Room, Read, Paid};
 ghost use Rattle.parse.specs.Unbounded.{if-head∞, while-head∞, block∞};
-ghost use Rattle.parse.specs.declared.statements.Kind.the-variants.{Then, Do};
+ghost use Rattle.parse.specs.declared.statements.Kind.the-variants.{Then, Else, Do};
 use crate::open::Open;
 use crate::parts::Part;
 use crate::reader::Reader;
@@ -97,6 +97,52 @@ impl<'s, 'a> Reader<'s, 'a> {
         self.condition(text, Fixed::Keep, Part::Invariant)?;
         self.measured(text)?;
         self.open_block(text, Kind::Do)?;
+        Ok(())
+    }
+
+    // Writes the length of a block, now that it is whole.
+    fn seal(&mut self, text: &[u8], kind: Kind, at: usize)
+        ensures { λ _. ⌜ snap (now (text .entry)) (now (self .exit)) ≡ sealed kind at (snap (now (text .entry)) (now (self .entry))) ⌝ }
+    {
+        let behind = self.behind(text, at);
+        self.patch(text, at, kind.node(behind, text));
+    }
+
+    // else {
+    fn else_head(&mut self, text: &[u8], at: usize) -> Result<(), NoText>
+        requires { ⌜ Room (snap (now text) (now self)) ⌝ }
+        ensures reads { λ r. ⌜ Cases r (λ _. (else-head (snap (now (text .entry)) (now (self .entry)) .ahead) ≡ Some (snap (now (text .entry)) (now (self .exit)) .ahead)) × (snap (now (text .entry)) (now (self .exit)) ≡ block-opened Else (advanced (sealed Then at (snap (now (text .entry)) (now (self .entry))))))) (λ _. else-head (snap (now (text .entry)) (now (self .entry)) .ahead) ≡ None) ⌝ }
+        ensures paid { λ r. ⌜ made r (λ _. Paid (snap (now (text .entry)) (now (self .entry))) (snap (now (text .entry)) (now (self .exit)))) ⌝ }
+    {
+        self.seal(text, Kind::Then, at);
+        self.expect(text, Fixed::Else)?;
+        self.open_block(text, Kind::Else)?;
+        Ok(())
+    }
+
+    // Behind a block inside a statement: its other block, or the statement's end.
+    fn end_block(&mut self, text: &[u8]) -> Result<(), NoText>
+        requires { ⌜ Room (snap (now text) (now self)) ⌝ }
+        ensures reads { λ r. ⌜ ((before : Snap) → length (before .pending) < length (snap (now (text .entry)) (now (self .entry)) .pending) → BlockWhole before (snap (now (text .entry)) (now (self .entry))) → Cases r (λ _. AtStatement before (snap (now (text .entry)) (now (self .exit)))) (λ _. block∞ (before .ahead) ≡ None)) ⌝ }
+        ensures paid { λ r. ⌜ made r (λ _. Paid (snap (now (text .entry)) (now (self .entry))) (snap (now (text .entry)) (now (self .exit)))) ⌝ }
+        ensures onward { λ r. ⌜ made r (λ _. length (snap (now (text .entry)) (now (self .exit)) .ahead) ≤ length (snap (now (text .entry)) (now (self .entry)) .ahead)) ⌝ }
+    {
+        let Some(part) = self.finish(text) else {
+            return Err(self.missing(Expected::Statement));
+        };
+        match part {
+            Open::Then(at) => self.else_head(text, at)?,
+            Open::Else(at) => {
+                self.seal(text, Kind::Else, at);
+                self.emit(text, Node::EndIf);
+            }
+            Open::Do(at) => {
+                self.seal(text, Kind::Do, at);
+                self.emit(text, Node::EndWhile);
+            }
+            // Nothing else has statements inside.
+            _ => return Err(self.missing(Expected::Statement)),
+        }
         Ok(())
     }
 }
