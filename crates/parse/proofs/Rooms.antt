@@ -3,7 +3,7 @@ use mathlib.Core.List.{List, [], _∷_, _++_}
 use mathlib.Core.Path.{_≡_, refl, sym, ap, _∙_}
 use Prim.Native.Nat.{ℕ, _+_, _*_, _-_, _<_, _≤_}
 use native.Mathlib.Omega.{arith}
-use lib.ListN.{length, take}
+use lib.ListN.{length, take, length-take}
 use Rattle.std.proofs.shelf.Lists.{length-push, length-take-le}
 use Rattle.lang.specs.Grammar.{onward}
 use Rattle.lang.specs.Instr.{Instr}
@@ -33,3 +33,6 @@ paid-row s i j l m n = record { code = omega (arith, length-push (s .code) i, le
 -- a token, and two instructions
 pub paid-two : (s : Snap) (i j : Instr) → length (s .ahead) ≡ 1 + length (onward (s .ahead)) → Paid s (emitted j (emitted i (advanced s)))
 paid-two s i j l = record { code = omega (arith, length-push (s .code) i, length-push (s .code ++ i ∷ []) j, l); pending = omega (arith, l); code-room = refl; pending-room = refl }
+
+pub paid-closed : (s : Snap) → Paid s (closed s)
+paid-closed s = let n = length (s .pending) in record { code = omega (arith, length-take (n - 1) (s .pending)); pending = omega (arith, length-take (n - 1) (s .pending)); code-room = refl; pending-room = refl }
