@@ -29,6 +29,7 @@ use Rattle.parse.specs.declared.statements.Kind.{Kind}
 use Rattle.parse.specs.declared.statements.Kind.the-variants as kind
 use Rattle.parse.proofs.Binds.{>>=-assoc, >>=-ext, >>=-some}
 use Rattle.parse.proofs.InExpr.{last-is, rest-is, closed-one}
+use Rattle.parse.proofs.Plain.{statement-if, statement-while}
 use Rattle.parse.proofs.Rules.{block-rule, if-head-rule, while-head-rule}
 
 pub opened-paid : (s : Snap) (k : Kind) → length (s .ahead) ≡ 1 + length (onward (s .ahead)) → Paid s (block-opened k s)
@@ -272,3 +273,80 @@ module _ (before : Snap) where
       go (in-then b at ss n) q = absurd (f at (found (around n) (Then at) q))
       go (in-else b c at ss n) q = absurd (g at (found (around n) (Else at) q))
       go (in-loop h at ss n) q = absurd (k at (found (around n) (Do at) q))
+
+-- A block begins.
+pub begun : (s : Snap) → AtStatement s s
+unfolding after-block
+begun s = record { read = []; nest = outermost; placed = tt; pending = sym (append-nil (s .pending)); code = sym (append-nil (s .code)); rest = sym (>>=-some (block∞ (s .ahead))) }
+
+module _ (before s : Snap) (h : AtStatement before s) where
+  -- the brace behind the last statement
+  pub brace-read : starts the.RightBrace (s .ahead) ≡ true → BlockWhole before (advanced s)
+  brace-read b = record { read = h .read; nest = h .nest; placed = h .placed; pending = h .pending; code = h .code; rest = h .rest ∙ rw (block-rule (s .ahead), b) }
+
+  module _ (b : starts the.RightBrace (s .ahead) ≡ false) where
+    pub no-statement : statement∞ (s .ahead) ≡ None → block∞ (before .ahead) ≡ None
+    no-statement n = h .rest ∙ rw (block-rule (s .ahead), b, n)
+
+    pub plain-read : (t : Snap) → Read statement∞ (λ s. code-stmt s []) s t → AtStatement before t
+    plain-read t r = record {
+      read = h .read ++ r .value ∷ [];
+      nest = h .nest;
+      placed = h .placed;
+      pending = r .pending ∙ h .pending;
+      code = r .code ∙ ap (λ k. k ++ code-stmt (r .value) []) (h .code) ∙ append-assoc (before .code) _ _ ∙ ap (λ k. before .code ++ k) (append-assoc (nest-code (h .nest)) (codes code-stmt (h .read)) _ ∙ ap (λ k. nest-code (h .nest) ++ k) (sym (codes-more (h .read) (r .value))));
+      rest = h .rest ∙ rw (block-rule (s .ahead), b, r .parsed) (>>=-assoc (block∞ (t .ahead)) _ _) ∙ >>=-ext (block∞ (t .ahead)) (λ p. ap (λ c. after-block (h .nest) c (p .1)) (sym (listed-more (h .read) (r .value) (p .0))));
+    }
+
+    pub if-read : (t : Snap) → starts the.If (s .ahead) ≡ true → Headed (λ ts. if-head∞ (onward ts)) then-code kind.Then s t → AtStatement before t
+    unfolding after-block
+    if-read t f r = record {
+      read = [];
+      nest = in-then (r .value) (r .at) (h .read) (h .nest);
+      placed = (r .placed ∙ ap length code′ ∙ length-append (before .code) _, h .placed);
+      pending = r .pending ∙ ap (λ os. os ++ Then (r .at) ∷ []) (h .pending) ∙ append-assoc (before .pending) (around (h .nest)) _;
+      code = code′ ∙ ap (λ k. before .code ++ k) (sym (append-nil _));
+      rest = h .rest ∙ rw (block-rule (s .ahead), b, statement-if (s .ahead) f, r .parsed) (>>=-assoc (block∞ (t .ahead) >>= ifs) rests afters ∙ >>=-assoc (block∞ (t .ahead)) ifs (λ y. rests y >>= afters) ∙ >>=-ext (block∞ (t .ahead)) (λ q. >>=-assoc (else-head (q .1)) _ _ ∙ >>=-ext (else-head (q .1)) (λ us. >>=-assoc (block∞ us) _ _ ∙ >>=-ext (block∞ us) (λ d. >>=-assoc (block∞ (d .1)) _ _))));
+    }
+      where
+        ifs : Block × List Token → Parsed Stmt
+        ifs q = else-head (q .1) >>= λ us. block∞ us >>= λ d. Some (branch (r .value) (q .0) (d .0), d .1)
+        rests : Stmt × List Token → Parsed Block
+        rests x = block∞ (x .1) >>= λ y. Some (seq (x .0) (y .0), y .1)
+        afters : Block × List Token → Parsed Block
+        afters x = after-block (h .nest) (listed (h .read) (x .0)) (x .1)
+        code′ : t .code ≡ before .code ++ nest-code (in-then (r .value) (r .at) (h .read) (h .nest))
+        code′ = r .code ∙ ap (λ k. k ++ then-code (r .value)) (h .code) ∙ append-assoc (before .code) _ _
+
+    pub while-read : (t : Snap) → starts the.While (s .ahead) ≡ true → Headed (λ ts. while-head∞ (onward ts)) loop-code kind.Do s t → AtStatement before t
+    unfolding after-block
+    while-read t f r = record {
+      read = [];
+      nest = in-loop (r .value) (r .at) (h .read) (h .nest);
+      placed = (r .placed ∙ ap length code′ ∙ length-append (before .code) _, h .placed);
+      pending = r .pending ∙ ap (λ os. os ++ Do (r .at) ∷ []) (h .pending) ∙ append-assoc (before .pending) (around (h .nest)) _;
+      code = code′ ∙ ap (λ k. before .code ++ k) (sym (append-nil _));
+      rest = h .rest ∙ rw (block-rule (s .ahead), b, statement-while (s .ahead) f, r .parsed) (>>=-assoc (block∞ (t .ahead) >>= loops) rests afters ∙ >>=-assoc (block∞ (t .ahead)) loops (λ y. rests y >>= afters) ∙ >>=-ext (block∞ (t .ahead)) (λ q. >>=-assoc (block∞ (q .1)) _ _));
+    }
+      where
+        loops : Block × List Token → Parsed Stmt
+        loops q = Some (loop (r .value .test) (r .value .invariant) (r .value .measure) (q .0), q .1)
+        rests : Stmt × List Token → Parsed Block
+        rests x = block∞ (x .1) >>= λ y. Some (seq (x .0) (y .0), y .1)
+        afters : Block × List Token → Parsed Block
+        afters x = after-block (h .nest) (listed (h .read) (x .0)) (x .1)
+        code′ : t .code ≡ before .code ++ nest-code (in-loop (r .value) (r .at) (h .read) (h .nest))
+        code′ = r .code ∙ ap (λ k. k ++ loop-code (r .value)) (h .code) ∙ append-assoc (before .code) _ _
+
+-- the outermost block is whole where nothing is open that was not before
+pub block-read : (before s : Snap) → BlockWhole before s → length (s .pending) ≤ length (before .pending) → Read block∞ (λ c. code-block c []) before s
+unfolding after-block
+block-read before s h l = go (h .nest) (h .pending) (h .code) (h .rest)
+  where
+    grown : {P : Type 0} (os : List Open) (o : Open) → s .pending ≡ before .pending ++ (os ++ o ∷ []) → P
+    grown os o e = absurd (omega (arith, ap length e, length-append (before .pending) (os ++ o ∷ []), length-push os o))
+    go : (n : Nest) → s .pending ≡ before .pending ++ around n → s .code ≡ before .code ++ (nest-code n ++ codes code-stmt (h .read)) → block∞ (before .ahead) ≡ after-block n (listed (h .read) end) (s .ahead) → Read block∞ (λ c. code-block c []) before s
+    go outermost q c r = record { value = listed (h .read) end; parsed = r; code = c ∙ ap (λ k. before .code ++ k) (sym (listed-whole (h .read))); pending = q ∙ append-nil (before .pending) }
+    go (in-then b at ss n) q c r = grown (around n) (Then at) q
+    go (in-else b d at ss n) q c r = grown (around n) (Else at) q
+    go (in-loop k at ss n) q c r = grown (around n) (Do at) q

@@ -1,4 +1,5 @@
 pub mod Shorter
+pub mod Lessening
 pub mod Stable
 pub mod Rules
 pub mod Binds

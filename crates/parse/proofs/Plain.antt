@@ -13,14 +13,14 @@ use Rattle.lang.specs.Grammar.{Parsed, starts, onward, expect, a-name, ended, e
 use Rattle.lang.specs.Instr as instr
 use Rattle.lang.specs.Instr.{Instr}
 use Rattle.lang.specs.Syntax.{Expr, assign, store, branch, loop, check, call, havoc}
-use Rattle.lang.specs.Tokens.{Token}
+use Rattle.lang.specs.Tokens.{Token, fixed, name, number, stray}
 use Rattle.lang.specs.declared.token.Fixed.the-variants as the
 use Rattle.lang.proofs.Codes.{expr-front}
 use Rattle.parse.specs.Reading.{Snap, Read, Room, Paid, advanced, emitted}
 use Rattle.parse.specs.Unbounded.{sum∞, formula∞, maybe-names∞, named-statement∞, if-head∞, while-head∞, block∞, statement∞}
 use Rattle.parse.proofs.Heads.{fixed-ahead, starts-long, name-long, expect-starts}
 use Rattle.parse.proofs.Rooms.{paid-then, paid-advance}
-use Rattle.parse.proofs.Rules.{named-statement-rule, statement-fixed}
+use Rattle.parse.proofs.Rules.{named-statement-rule, statement-end, statement-fixed, statement-name, statement-number, statement-stray}
 
 -- the last instruction, and the semicolon
 pub paid-end : (s : Snap) (i : Instr) (us : List Token) → expect the.Semicolon (s .ahead) ≡ Some us → Paid s (advanced (emitted i s))
@@ -76,3 +76,17 @@ pub two-exprs : (is js ks : List Instr) (a b : Expr) (i : Instr) → js ≡ is +
 two-exprs is js ks a b i e f =
     ap (λ k. k ++ i ∷ []) (f ∙ ap (λ k. k ++ code-expr b []) e) ∙ append-assoc (is ++ code-expr a []) (code-expr b []) (i ∷ []) ∙ append-assoc is (code-expr a []) (code-expr b [] ++ i ∷ [])
     ∙ ap (λ k. is ++ k) (ap (λ k. code-expr a [] ++ k) (sym (expr-front b .splits (i ∷ []))) ∙ sym (expr-front a .splits (code-expr b (i ∷ []))))
+
+-- nothing that begins a statement
+pub no-statement : (ts : List Token) → starts the.If ts ≡ false → starts the.While ts ≡ false → starts the.Check ts ≡ false → starts the.Any ts ≡ false → a-name ts ≡ None → statement∞ ts ≡ None
+no-statement [] a b c d n = statement-end
+no-statement (fixed f ∷ ts) a b c d n = statement-fixed f ts ∙ rw (a, b, c, d)
+no-statement (name x ∷ ts) a b c d n = let z : _≡_ {A = ℕ} 0 1 = cc in absurd (omega arith)
+no-statement (number m ∷ ts) a b c d n = statement-number m ts
+no-statement (stray ∷ ts) a b c d n = statement-stray ts
+
+pub named-read : (s t : Snap) (x : Word) (ts : List Token) → s .ahead ≡ name x ∷ ts → Read (named-statement∞ x) (λ s. code-stmt s []) (advanced s) t → Read statement∞ (λ s. code-stmt s []) s t
+named-read s t x ts e r = record { value = r .value; parsed = ap statement∞ e ∙ statement-name x ts ∙ ap (λ us. named-statement∞ x (onward us)) (sym e) ∙ r .parsed; code = r .code; pending = r .pending }
+
+pub named-unread : (s : Snap) (x : Word) (ts : List Token) → s .ahead ≡ name x ∷ ts → named-statement∞ x (onward (s .ahead)) ≡ None → statement∞ (s .ahead) ≡ None
+named-unread s x ts e n = ap statement∞ e ∙ statement-name x ts ∙ ap (λ us. named-statement∞ x (onward us)) (sym e) ∙ n

@@ -16,8 +16,8 @@ use Rattle.std.proofs.shelf.Tests.{ltb-false}
 use Rattle.std.specs.Results.{Cases}
 use Rattle.std.specs.declared.result.Result.{Result}
 use Rattle.std.specs.declared.result.Result.the-variants.{Ok, Err}
-use Rattle.lang.specs.Ahead.{ahead}
-use Rattle.lang.specs.Grammar.{onward}
+use Rattle.lang.specs.Ahead.{ahead, ahead-by}
+use Rattle.lang.specs.Grammar.{onward, a-name}
 use Rattle.parse.specs.Reading.{Snap}
 use Rattle.lang.specs.Tokens.{tokens}
 use Rattle.lang.specs.declared.scan.Cursor.{Cursor}
@@ -53,3 +53,14 @@ popped (Some x) xs ys e t =
     let long : length xs - 1 ≡ length ys = omega (arith, ap length e ∙ length-push ys x) in
     let end : length ys < length (ys ++ x ∷ []) = omega (arith, length-push ys x) in
     rw (long, e) (sym (nth-getD (ys ++ x ∷ []) (length ys) x end ∙ ap Some (getD-push ys x x (length ys) refl)), sym (take-at ys (x ∷ []) (length ys) refl))
+
+unnamed-by : (text : List ℕ) (start end : ℕ) (t : Token) → (t ≡ Name → ⊥) → a-name (ahead-by text start end t) ≡ None
+unnamed-by text start end (Fixed f) h = refl
+unnamed-by text start end Name h = absurd (h refl)
+unnamed-by text start end Number h = refl
+unnamed-by text start end Stray h = refl
+unnamed-by text start end End h = refl
+
+-- another token than a name
+pub unnamed : (text : List ℕ) (c : Cursor) → (c .token ≡ Name → ⊥) → a-name (ahead text c) ≡ None
+unnamed text c h = unnamed-by text (c .start) (c .end) (c .token) h

@@ -8,12 +8,12 @@ ghost use Rattle.std.specs.Results.{Cases};
 ghost use Rattle.std.specs.Vec.{made};
 ghost use Rattle.std.specs.declared.option.Option.the-variants.{Some, None};
 ghost use Rattle.lang.specs.Instr.{instr};
-ghost use Rattle.lang.specs.Code.{code-block};
+ghost use Rattle.lang.specs.Code.{code-stmt, code-block};
 ghost use Rattle.lang.specs.Grammar.{starts, onward, expect, else-head};
 ghost use Rattle.lang.specs.declared.token.Fixed.the-variants as the;
 ghost use Rattle.parse.specs.InBlock.{AtStatement, BlockWhole, sealed, Headed, Closed, then-code, loop-code, kind-instr, kind-part, block-opened};
 ghost use Rattle.parse.specs.Reading.{Snap, snap, advanced, Room, Read, Paid};
-ghost use Rattle.parse.specs.Unbounded.{if-head∞, while-head∞, block∞};
+ghost use Rattle.parse.specs.Unbounded.{if-head∞, while-head∞, statement∞, block∞};
 ghost use Rattle.parse.specs.declared.statements.Kind.the-variants.{Then, Else, Do};
 use crate::open::Open;
 use crate::parts::Part;
@@ -144,5 +144,79 @@ impl<'s, 'a> Reader<'s, 'a> {
             _ => return Err(self.missing(Expected::Statement)),
         }
         Ok(())
+    }
+
+    // A statement that has no statements inside.
+    fn simple_statement(&mut self, text: &[u8]) -> Result<(), NoText>
+        requires room { ⌜ Room (snap (now text) (now self)) ⌝ }
+        requires not_if { ⌜ starts the.If (snap (now text) (now self) .ahead) ≡ false ⌝ }
+        requires not_while { ⌜ starts the.While (snap (now text) (now self) .ahead) ≡ false ⌝ }
+        ensures reads { λ r. ⌜ Cases r (λ _. Read statement∞ (λ s. code-stmt s []) (snap (now (text .entry)) (now (self .entry))) (snap (now (text .entry)) (now (self .exit)))) (λ _. statement∞ (snap (now (text .entry)) (now (self .entry)) .ahead) ≡ None) ⌝ }
+        ensures paid { λ r. ⌜ made r (λ _. Paid (snap (now (text .entry)) (now (self .entry))) (snap (now (text .entry)) (now (self .exit)))) ⌝ }
+    {
+        if self.at(text, Fixed::Check) {
+            return self.check(text);
+        }
+        if self.at(text, Fixed::Any) {
+            return self.havoc(text);
+        }
+        let Token::Name = self.cursor.token else {
+            return Err(self.missing(Expected::Statement));
+        };
+        let name = Place(self.cursor.start);
+        self.advance(text);
+        self.named_statement(text, name)?;
+        Ok(())
+    }
+
+    // A statement, or its head up to the block inside.
+    fn statement(&mut self, text: &[u8]) -> Result<(), NoText>
+        requires { ⌜ Room (snap (now text) (now self)) ⌝ }
+        ensures reads { λ r. ⌜ ((before : Snap) → starts the.RightBrace (snap (now (text .entry)) (now (self .entry)) .ahead) ≡ false → AtStatement before (snap (now (text .entry)) (now (self .entry))) → Cases r (λ _. AtStatement before (snap (now (text .entry)) (now (self .exit)))) (λ _. block∞ (before .ahead) ≡ None)) ⌝ }
+        ensures paid { λ r. ⌜ made r (λ _. Paid (snap (now (text .entry)) (now (self .entry))) (snap (now (text .entry)) (now (self .exit)))) ⌝ }
+        ensures shorter { λ r. ⌜ made r (λ _. length (snap (now (text .entry)) (now (self .exit)) .ahead) < length (snap (now (text .entry)) (now (self .entry)) .ahead)) ⌝ }
+    {
+        if self.at(text, Fixed::If) {
+            self.if_head(text)?;
+        } else if self.at(text, Fixed::While) {
+            self.while_head(text)?;
+        } else {
+            self.simple_statement(text)?;
+        }
+        Ok(())
+    }
+
+    // Behind a brace: was it that of the outermost block?
+    fn close(&mut self, text: &[u8], base: usize) -> Result<bool, NoText>
+        requires room { ⌜ Room (snap (now text) (now self)) ⌝ }
+        requires brace { ⌜ starts the.RightBrace (snap (now text) (now self) .ahead) ≡ true ⌝ }
+        ensures reads { λ r. ⌜ ((before : Snap) → base ≡ length (before .pending) → AtStatement before (snap (now (text .entry)) (now (self .entry))) → Cases r (λ done. Closed before (snap (now (text .entry)) (now (self .exit))) done) (λ _. block∞ (before .ahead) ≡ None)) ⌝ }
+        ensures paid { λ r. ⌜ made r (λ _. Paid (snap (now (text .entry)) (now (self .entry))) (snap (now (text .entry)) (now (self .exit)))) ⌝ }
+        ensures shorter { λ r. ⌜ made r (λ _. length (snap (now (text .entry)) (now (self .exit)) .ahead) < length (snap (now (text .entry)) (now (self .entry)) .ahead)) ⌝ }
+    {
+        self.advance(text);
+        if self.height(text) <= base {
+            return Ok(true);
+        }
+        self.end_block(text)?;
+        Ok(false)
+    }
+
+    // The statements of a block, up to its brace, which is read too.
+    pub fn block(&mut self, text: &[u8]) -> Result<(), NoText>
+        requires { ⌜ Room (snap (now text) (now self)) ⌝ }
+        ensures reads { λ r. ⌜ Cases r (λ _. Read block∞ (λ c. code-block c []) (snap (now (text .entry)) (now (self .entry))) (snap (now (text .entry)) (now (self .exit)))) (λ _. block∞ (snap (now (text .entry)) (now (self .entry)) .ahead) ≡ None) ⌝ }
+        ensures paid { λ r. ⌜ made r (λ _. Paid (snap (now (text .entry)) (now (self .entry))) (snap (now (text .entry)) (now (self .exit)))) ⌝ }
+    {
+        let base = self.height(text);
+        'statements: loop {
+            if !self.at(text, Fixed::RightBrace) {
+                self.statement(text)?;
+                continue;
+            }
+            if self.close(text, base)? {
+                return Ok(());
+            }
+        }
     }
 }
