@@ -15,3 +15,4 @@ pub mod Headed
 pub mod Clauses
 pub mod Plain
 pub mod InBlock
+pub mod Procs

@@ -36,3 +36,7 @@ paid-two s i j l = record { code = omega (arith, length-push (s .code) i, length
 
 pub paid-closed : (s : Snap) → Paid s (closed s)
 paid-closed s = let n = length (s .pending) in record { code = omega (arith, length-take (n - 1) (s .pending)); pending = omega (arith, length-take (n - 1) (s .pending)); code-room = refl; pending-room = refl }
+
+-- a token pays for two instructions
+pub room-one : (s : Snap) (i : Instr) → Room s → length (s .ahead) ≡ 1 + length (onward (s .ahead)) → length (emitted i (advanced s) .code) < emitted i (advanced s) .code-room
+room-one s i r l = omega (arith, r .code, length-push (s .code) i, l)

@@ -7,4 +7,5 @@ pub mod InBool
 pub mod Listed
 pub mod Parts
 pub mod InBlock
+pub mod Procedures
 pub mod Declaring

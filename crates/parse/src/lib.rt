@@ -6,6 +6,7 @@ pub mod formula;
 pub mod names;
 pub mod open;
 pub mod parts;
+pub mod procedures;
 pub mod reader;
 pub mod refusal;
 pub mod simple;
