@@ -22,6 +22,7 @@ pub trait Record: Copy {
 pub struct Full;
 
 // The first `len` records stand in the first 2 * `len` words.
+#[derive(Drop)]
 pub struct Table<'a, R> {
     words: &'a mut [u64],
     len: usize,

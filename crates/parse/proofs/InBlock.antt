@@ -29,6 +29,7 @@ use Rattle.parse.specs.declared.statements.Kind.{Kind}
 use Rattle.parse.specs.declared.statements.Kind.the-variants as kind
 use Rattle.parse.proofs.Binds.{>>=-assoc, >>=-ext, >>=-some}
 use Rattle.parse.proofs.InExpr.{last-is, rest-is, closed-one}
+use Rattle.parse.proofs.Listed.{codes-more}
 use Rattle.parse.proofs.Plain.{statement-if, statement-while}
 use Rattle.parse.proofs.Rules.{block-rule, if-head-rule, while-head-rule}
 
@@ -87,10 +88,6 @@ listed-code (s ∷ ss) k = ap (code-stmt s) (listed-code ss k) ∙ stmt-front s 
 
 listed-whole : (ss : List Stmt) → code-block (listed ss end) [] ≡ codes code-stmt ss
 listed-whole ss = listed-code ss [] ∙ append-nil (codes code-stmt ss)
-
-codes-more : (ss : List Stmt) (s : Stmt) → codes code-stmt (ss ++ s ∷ []) ≡ codes code-stmt ss ++ code-stmt s []
-codes-more [] s = refl
-codes-more (t ∷ ss) s = ap (code-stmt t) (codes-more ss s) ∙ stmt-front t .splits (codes code-stmt ss ++ code-stmt s []) ∙ sym (append-assoc (code-stmt t []) (codes code-stmt ss) (code-stmt s [])) ∙ ap (λ is. is ++ code-stmt s []) (sym (stmt-front t .splits (codes code-stmt ss)))
 
 listed-more : (ss : List Stmt) (s : Stmt) (c : Block) → listed (ss ++ s ∷ []) c ≡ listed ss (seq s c)
 listed-more [] s c = refl
@@ -174,7 +171,7 @@ module _ (before : Snap) where
     nest = n;
     placed = p;
     pending = ap (λ os. take (length os - 1) os) (o ∙ sym (append-assoc (before .pending) (around n) (part ∷ []))) ∙ rest-is (before .pending ++ around n) part;
-    code = c ∙ ap (λ k. before .code ++ k) (append-assoc (nest-code n) (codes code-stmt ss) _ ∙ ap (λ k. nest-code n ++ k) (sym (codes-more ss st)));
+    code = c ∙ ap (λ k. before .code ++ k) (append-assoc (nest-code n) (codes code-stmt ss) _ ∙ ap (λ k. nest-code n ++ k) (sym (codes-more code-stmt stmt-front ss st)));
     rest = r ∙ >>=-ext (block∞ (s .ahead)) (λ p. ap (λ c. after-block n c (p .1)) (sym (listed-more ss st (p .0))));
   }
 
@@ -294,7 +291,7 @@ module _ (before s : Snap) (h : AtStatement before s) where
       nest = h .nest;
       placed = h .placed;
       pending = r .pending ∙ h .pending;
-      code = r .code ∙ ap (λ k. k ++ code-stmt (r .value) []) (h .code) ∙ append-assoc (before .code) _ _ ∙ ap (λ k. before .code ++ k) (append-assoc (nest-code (h .nest)) (codes code-stmt (h .read)) _ ∙ ap (λ k. nest-code (h .nest) ++ k) (sym (codes-more (h .read) (r .value))));
+      code = r .code ∙ ap (λ k. k ++ code-stmt (r .value) []) (h .code) ∙ append-assoc (before .code) _ _ ∙ ap (λ k. before .code ++ k) (append-assoc (nest-code (h .nest)) (codes code-stmt (h .read)) _ ∙ ap (λ k. nest-code (h .nest) ++ k) (sym (codes-more code-stmt stmt-front (h .read) (r .value))));
       rest = h .rest ∙ rw (block-rule (s .ahead), b, r .parsed) (>>=-assoc (block∞ (t .ahead)) _ _) ∙ >>=-ext (block∞ (t .ahead)) (λ p. ap (λ c. after-block (h .nest) c (p .1)) (sym (listed-more (h .read) (r .value) (p .0))));
     }
 

@@ -16,3 +16,4 @@ pub mod Clauses
 pub mod Plain
 pub mod InBlock
 pub mod Procs
+pub mod Wholes

@@ -15,11 +15,11 @@ use Rattle.parse.specs.Listed.{codes, AtItem}
 use Rattle.parse.specs.Reading.{Snap, Read, advanced}
 use Rattle.parse.proofs.Binds.{>>=-assoc, >>=-ext, >>=-some}
 
-module _ {A : Type 0} (item : List Token → Parsed A) (code-of : A → List Instr → List Instr) (front : (x : A) → Front (code-of x)) (last : Fixed) (items : List Token → Parsed (List A)) (rule : (ts : List Token) → items ts ≡ (item ts >>= λ p. cond (starts Comma (p .1)) (items (onward (p .1)) >>= λ q. Some (p .0 ∷ q .0, q .1)) (expect last (p .1) >>= λ us. Some (p .0 ∷ [], us)))) where
-  codes-more : (xs : List A) (x : A) → codes code-of (xs ++ x ∷ []) ≡ codes code-of xs ++ code-of x []
-  codes-more [] x = refl
-  codes-more (y ∷ xs) x = ap (code-of y) (codes-more xs x) ∙ front y .splits (codes code-of xs ++ code-of x []) ∙ sym (append-assoc (code-of y []) (codes code-of xs) (code-of x [])) ∙ ap (λ is. is ++ code-of x []) (sym (front y .splits (codes code-of xs)))
+pub codes-more : {A : Type 0} (code-of : A → List Instr → List Instr) → ((x : A) → Front (code-of x)) → (xs : List A) (x : A) → codes code-of (xs ++ x ∷ []) ≡ codes code-of xs ++ code-of x []
+codes-more code-of front [] x = refl
+codes-more code-of front (y ∷ xs) x = ap (code-of y) (codes-more code-of front xs x) ∙ front y .splits (codes code-of xs ++ code-of x []) ∙ sym (append-assoc (code-of y []) (codes code-of xs) (code-of x [])) ∙ ap (λ is. is ++ code-of x []) (sym (front y .splits (codes code-of xs)))
 
+module _ {A : Type 0} (item : List Token → Parsed A) (code-of : A → List Instr → List Instr) (front : (x : A) → Front (code-of x)) (last : Fixed) (items : List Token → Parsed (List A)) (rule : (ts : List Token) → items ts ≡ (item ts >>= λ p. cond (starts Comma (p .1)) (items (onward (p .1)) >>= λ q. Some (p .0 ∷ q .0, q .1)) (expect last (p .1) >>= λ us. Some (p .0 ∷ [], us)))) where
   pub first-item : (s : Snap) → AtItem items code-of s s
   first-item s = record { read = []; code = sym (append-nil (s .code)); pending = refl; rest = sym (>>=-some (items (s .ahead))) }
 
@@ -39,7 +39,7 @@ module _ {A : Type 0} (item : List Token → Parsed A) (code-of : A → List Ins
     behind x us n = h .rest ∙ rw (rule (s .ahead), n) (after-more (h .read) x us (starts Comma us))
 
     written : (t : Snap) (x : A) → t .code ≡ s .code ++ code-of x [] → t .code ≡ before .code ++ codes code-of (h .read ++ x ∷ [])
-    written t x c = c ∙ ap (λ is. is ++ code-of x []) (h .code) ∙ append-assoc (before .code) (codes code-of (h .read)) (code-of x []) ∙ ap (λ is. before .code ++ is) (sym (codes-more (h .read) x))
+    written t x c = c ∙ ap (λ is. is ++ code-of x []) (h .code) ∙ append-assoc (before .code) (codes code-of (h .read)) (code-of x []) ∙ ap (λ is. before .code ++ is) (sym (codes-more code-of front (h .read) x))
 
     pub next-item : (t : Snap) (x : A) → item (s .ahead) ≡ Some (x, t .ahead) → t .code ≡ s .code ++ code-of x [] → t .pending ≡ s .pending → starts Comma (t .ahead) ≡ true → AtItem items code-of before (advanced t)
     next-item t x n c p b = record {

@@ -64,3 +64,13 @@ unnamed-by text start end End h = refl
 -- another token than a name
 pub unnamed : (text : List ℕ) (c : Cursor) → (c .token ≡ Name → ⊥) → a-name (ahead text c) ≡ None
 unnamed text c h = unnamed-by text (c .start) (c .end) (c .token) h
+
+some-by : (text : List ℕ) (start end : ℕ) (t : Token) → (t ≡ End → ⊥) → ahead-by text start end t ≡ [] → ⊥
+some-by text start end (Fixed f) h e = let z : _≡_ {A = ℕ} 0 1 = cc in omega arith
+some-by text start end Name h e = let z : _≡_ {A = ℕ} 0 1 = cc in omega arith
+some-by text start end Number h e = let z : _≡_ {A = ℕ} 0 1 = cc in omega arith
+some-by text start end Stray h e = let z : _≡_ {A = ℕ} 0 1 = cc in omega arith
+some-by text start end End h e = h refl
+
+pub some-ahead : (text : List ℕ) (c : Cursor) → (c .token ≡ End → ⊥) → ahead text c ≡ [] → ⊥
+some-ahead text c h = some-by text (c .start) (c .end) (c .token) h

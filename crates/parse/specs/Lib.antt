@@ -8,4 +8,5 @@ pub mod Listed
 pub mod Parts
 pub mod InBlock
 pub mod Procedures
+pub mod Whole
 pub mod Declaring

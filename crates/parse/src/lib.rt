@@ -1,4 +1,24 @@
 // From a text to a program in lent words.
+ghost use mathlib.Core.List.{List, [], map};
+ghost use mathlib.Core.Path.{_≡_};
+ghost use Prim.Native.Nat.{_*_, _≤_};
+ghost use lib.ListN.{length};
+ghost use Rattle.std.specs.Results.{Cases};
+ghost use Rattle.std.specs.declared.option.Option.the-variants.{Some, None};
+ghost use Rattle.lent.specs.Tables.{items, capacity};
+ghost use Rattle.lang.specs.Code.{code-procs};
+ghost use Rattle.lang.specs.Grammar.{reads};
+ghost use Rattle.lang.specs.Instr.{instr};
+ghost use Rattle.lang.specs.Layout.{node};
+ghost use Rattle.lang.specs.Syntax.{Proc};
+ghost use Rattle.parse.specs.Layout.{open-part};
+ghost use Rattle.parse.specs.declared.ReadError.the-variants.{NoText};
+ghost use Rattle.parse.specs.Whole.{ReadsAs, ReadInto, Refused};
+use lang::code::Node;
+use lang::code::record::NodeRecord;
+use lang::program::Program;
+use lang::scan::scan;
+use lent::Table;
 
 pub mod declarations;
 pub mod expression;
@@ -11,3 +31,63 @@ pub mod reader;
 pub mod refusal;
 pub mod simple;
 pub mod statements;
+
+use open::Open;
+use open::OpenRecord;
+use reader::Reader;
+use refusal::NoText;
+
+// Why no program was read.
+#[derive(Clone, Copy)]
+pub enum ReadError {
+    NoText(NoText),
+    // too few words were lent
+    Few,
+}
+
+pub impl From<NoText> for ReadError as ReadErrorFromNoText {
+    ghost converts = { λ e r. r ≡ NoText e };
+
+    fn from(e: NoText) -> ReadError {
+        ReadError::NoText(e)
+    }
+}
+
+// The text's program, with its nodes in the table `code`; gives the width.
+fn read_into<'s, 'a>(text: &[u8], code: &'s mut Table<'a, Node>, pending: &'s mut Table<'a, Open>) -> Result<u64, NoText>
+    requires empty { ⌜ items node (now code) ≡ [] ⌝ ∗ ⌜ items open-part (now pending) ≡ [] ⌝ }
+    requires room { ⌜ 2 * length (now text) ≤ capacity (now code) ⌝ ∗ ⌜ length (now text) ≤ capacity (now pending) ⌝ }
+    ensures { λ r. ⌜ Cases r (λ w. ReadInto (now (text .entry)) (items node (now (code .exit))) w) (λ _. reads (now (text .entry)) ≡ None) ⌝ }
+{
+    let mut reader = Reader {
+        cursor: scan(text, 0),
+        code,
+        pending,
+    };
+    let width = reader.program(text);
+    let Reader {
+        cursor: _,
+        code: _,
+        pending: _,
+    } = reader;
+    width
+}
+
+// The program that the text reads as, in the words.
+pub fn read<'a>(text: &'a [u8], words: &'a mut [u64]) -> Result<Program<'a>, ReadError>
+    ensures { λ r. ⌜ Cases r (λ p. ReadsAs (now (text .entry)) p) (λ e. Refused (now (text .entry)) (length (now (words .entry))) e) ⌝ }
+{
+    let n = text.len();
+    if n > words.len() / 6 {
+        return Err(ReadError::Few);
+    }
+    let (front, back) = words.split_at_mut(4 * n);
+    let mut code = Table::new(front);
+    let mut pending = Table::new(back);
+    let width = read_into(text, &mut code, &mut pending)?;
+    Ok(Program {
+        text,
+        width,
+        code: code.freeze(),
+    })
+}

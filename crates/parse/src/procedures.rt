@@ -14,11 +14,14 @@ ghost use Rattle.lang.specs.declared.token.Fixed.the-variants as the;
 ghost use Rattle.parse.specs.Procedures.{signature∞, terms∞, body∞, signature-code, terms-code, block-code, body-code};
 ghost use Rattle.parse.specs.Reading.{snap, emitted, Room, Read, Paid};
 ghost use Rattle.parse.specs.Unbounded.{block∞, procedure∞, procedures∞};
+ghost use Rattle.parse.specs.Whole.{AllRead, WholeRead, program∞};
 use crate::parts::Part;
 use crate::reader::Reader;
 use crate::refusal::NoText;
 use lang::code::Node;
+use lang::scan::number_at;
 use lang::token::Fixed;
+use lang::token::Token;
 
 impl<'s, 'a> Reader<'s, 'a> {
     // f(x, ..); gives the index of the node that is to have the procedure's length.
@@ -88,5 +91,31 @@ impl<'s, 'a> Reader<'s, 'a> {
         let behind = self.behind(text, extent);
         self.patch(text, extent, Node::Extent(behind));
         Ok(())
+    }
+
+    // Procedures, up to the end of the text.
+    pub fn procedures(&mut self, text: &[u8]) -> Result<(), NoText>
+        requires { ⌜ Room (snap (now text) (now self)) ⌝ }
+        ensures { λ r. ⌜ Cases r (λ _. AllRead (snap (now (text .entry)) (now (self .entry))) (snap (now (text .entry)) (now (self .exit)))) (λ _. procedures∞ (snap (now (text .entry)) (now (self .entry)) .ahead) ≡ None) ⌝ }
+    {
+        'procs: loop {
+            if let Token::End = self.cursor.token {
+                return Ok(());
+            }
+            self.expect(text, Fixed::Proc)?;
+            self.procedure(text)?;
+        }
+    }
+
+    // A whole text; gives the width.
+    pub fn program(&mut self, text: &[u8]) -> Result<u64, NoText>
+        requires { ⌜ Room (snap (now text) (now self)) ⌝ }
+        ensures { λ r. ⌜ Cases r (λ w. WholeRead (snap (now (text .entry)) (now (self .entry))) (snap (now (text .entry)) (now (self .exit))) w) (λ _. program∞ (snap (now (text .entry)) (now (self .entry)) .ahead) ≡ None) ⌝ }
+    {
+        self.expect(text, Fixed::Width)?;
+        let width = self.number(text)?;
+        self.expect(text, Fixed::Semicolon)?;
+        self.procedures(text)?;
+        Ok(number_at(text, width.0))
     }
 }

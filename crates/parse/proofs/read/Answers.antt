@@ -1,0 +1,4 @@
+use Rattle.parse.proofs.read.Needs as need
+
+pub returns : need.returns
+returns c = ?
