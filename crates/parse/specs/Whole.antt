@@ -58,12 +58,6 @@ pub record ReadsAs (bytes : List ℕ) (held : Program) : Type 0 where
   pub text : now (held .text) ≡ bytes
   pub holds : Holds held program
 
--- The nodes are those of the program that the text reads as; w: the width.
-pub record ReadInto (bytes : List ℕ) (nodes : List Node) (w : ℕ) : Type 0 where
-  pub procs : List Proc
-  pub reads : reads bytes ≡ Some (record { width = w; procs = procs })
-  pub code : map (instr bytes) nodes ≡ code-procs procs []
-
 -- t: the text; n: how many words were lent
 abbrev pub Refused : List ℕ → ℕ → ReadError → Type 0
 Refused t n (NoText e) = reads t ≡ None

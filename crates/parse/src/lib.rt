@@ -13,7 +13,7 @@ ghost use Rattle.lang.specs.Layout.{node};
 ghost use Rattle.lang.specs.Syntax.{Proc};
 ghost use Rattle.parse.specs.Layout.{open-part};
 ghost use Rattle.parse.specs.declared.ReadError.the-variants.{NoText};
-ghost use Rattle.parse.specs.Whole.{ReadsAs, ReadInto, Refused};
+ghost use Rattle.parse.specs.Whole.{ReadsAs, Refused};
 use lang::code::Node;
 use lang::code::record::NodeRecord;
 use lang::program::Program;
@@ -53,24 +53,23 @@ pub impl From<NoText> for ReadError as ReadErrorFromNoText {
     }
 }
 
-// The text's program, with its nodes in the table `code`; gives the width.
-fn read_into<'s, 'a>(text: &[u8], code: &'s mut Table<'a, Node>, pending: &'s mut Table<'a, Open>) -> Result<u64, NoText>
+// The program that the text reads as, in the words of the table `code`.
+fn read_into<'s, 'a>(text: &'a [u8], code: &'s mut Table<'a, Node>, pending: &'s mut Table<'a, Open>) -> Result<Program<'a>, NoText>
     requires empty { ⌜ items node (now code) ≡ [] ⌝ ∗ ⌜ items open-part (now pending) ≡ [] ⌝ }
     requires room { ⌜ 2 * length (now text) ≤ capacity (now code) ⌝ ∗ ⌜ length (now text) ≤ capacity (now pending) ⌝ }
-    ensures { λ r. ⌜ Cases r (λ w. ReadInto (now (text .entry)) (items node (now (code .exit))) w) (λ _. reads (now (text .entry)) ≡ None) ⌝ }
+    ensures { λ r. ⌜ Cases r (λ p. ReadsAs (now (text .entry)) p) (λ _. reads (now (text .entry)) ≡ None) ⌝ }
 {
     let mut reader = Reader {
         cursor: scan(text, 0),
         code,
         pending,
     };
-    let width = reader.program(text);
-    let Reader {
-        cursor: _,
-        code: _,
-        pending: _,
-    } = reader;
-    width
+    let width = reader.program(text)?;
+    Ok(Program {
+        text,
+        width,
+        code: reader.code.freeze(),
+    })
 }
 
 // The program that the text reads as, in the words.
@@ -84,10 +83,5 @@ pub fn read<'a>(text: &'a [u8], words: &'a mut [u64]) -> Result<Program<'a>, Rea
     let (front, back) = words.split_at_mut(4 * n);
     let mut code = Table::new(front);
     let mut pending = Table::new(back);
-    let width = read_into(text, &mut code, &mut pending)?;
-    Ok(Program {
-        text,
-        width,
-        code: code.freeze(),
-    })
+    Ok(read_into(text, &mut code, &mut pending)?)
 }

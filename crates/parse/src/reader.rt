@@ -22,6 +22,7 @@ use lent::Table;
 use lang::code::record::NodeRecord;
 use crate::open::OpenRecord;
 
+#[derive(Drop)]
 pub struct Reader<'s, 'a> {
     pub cursor: Cursor,
     pub code: &'s mut Table<'a, Node>,

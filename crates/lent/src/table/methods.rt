@@ -92,14 +92,18 @@ impl<'a, R: Record> Table<'a, R> {
         }
     }
 
-    // The table as it is, to be read from now on.
-    pub fn freeze(self) -> View<'a, R>
-        ensures { λ r. ⌜ kept decoded r ≡ items decoded (self .entry) ⌝ }
+    // The records, to be read from now on; the words go with them, so the table has no room left.
+    pub fn freeze(&mut self) -> View<'a, R>
+        ensures value { λ r. ⌜ kept decoded r ≡ items decoded (now (self .entry)) ⌝ }
+        ensures items { λ _. ⌜ items decoded (now (self .exit)) ≡ [] ⌝ }
+        ensures capacity { λ _. ⌜ capacity (now (self .exit)) ≡ 0 ⌝ }
     {
-        let Table { words, len, kind } = self;
+        let len = self.len;
+        self.len = 0;
+        let words: &'a mut [u64] = std::mem::replace(&mut self.words, &mut []);
         View {
             words: &words[0..2 * len],
-            kind,
+            kind: self.kind,
         }
     }
 }
