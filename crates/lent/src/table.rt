@@ -21,6 +21,12 @@ pub trait Record: Copy {
 #[derive(Clone, Copy, Debug)]
 pub struct Full;
 
+// How many records a table had when it was marked: a table is a stack, and `release` takes off what was pushed since.
+#[derive(Clone, Copy, Debug)]
+pub struct Mark {
+    height: usize,
+}
+
 // The first `len` records stand in the first 2 * `len` words.
 #[derive(Drop)]
 pub struct Table<'a, R> {

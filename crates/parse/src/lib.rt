@@ -12,25 +12,27 @@ ghost use Rattle.lang.specs.Instr.{instr};
 ghost use Rattle.lang.specs.Layout.{node};
 ghost use Rattle.lang.specs.Syntax.{Proc};
 ghost use Rattle.parse.specs.Layout.{open-part};
-ghost use Rattle.parse.specs.declared.ReadError.the-variants.{NoText};
+ghost use Rattle.parse.specs.declared.ReadError.the-variants.{NoText, Few};
 ghost use Rattle.parse.specs.Whole.{ReadsAs, Refused};
 use lang::code::Node;
 use lang::code::record::NodeRecord;
 use lang::program::Program;
 use lang::scan::scan;
+use lent::Parts;
 use lent::Table;
+use lent::split;
 
-pub mod declarations;
-pub mod expression;
-pub mod formula;
-pub mod names;
-pub mod open;
-pub mod parts;
-pub mod procedures;
-pub mod reader;
+mod declarations;
+mod expression;
+mod formula;
+mod names;
+mod open;
+mod parts;
+mod procedures;
+mod reader;
 pub mod refusal;
-pub mod simple;
-pub mod statements;
+mod simple;
+mod statements;
 
 use open::Open;
 use open::OpenRecord;
@@ -53,6 +55,14 @@ pub impl From<NoText> for ReadError as ReadErrorFromNoText {
     }
 }
 
+pub impl From<lent::Few> for ReadError as ReadErrorFromFew {
+    ghost converts = { λ _ r. r ≡ Few };
+
+    fn from(_e: lent::Few) -> ReadError {
+        ReadError::Few
+    }
+}
+
 // The program that the text reads as, in the words of the table `code`.
 fn read_into<'s, 'a>(text: &'a [u8], code: &'s mut Table<'a, Node>, pending: &'s mut Table<'a, Open>) -> Result<Program<'a>, NoText>
     requires empty { ⌜ items node (now code) ≡ [] ⌝ ∗ ⌜ items open-part (now pending) ≡ [] ⌝ }
@@ -72,7 +82,7 @@ fn read_into<'s, 'a>(text: &'a [u8], code: &'s mut Table<'a, Node>, pending: &'s
     })
 }
 
-// The program that the text reads as, in the words.
+// The program that the text reads as, in the words: four for each byte hold its nodes, and two what is open meanwhile.
 pub fn read<'a>(text: &'a [u8], words: &'a mut [u64]) -> Result<Program<'a>, ReadError>
     ensures { λ r. ⌜ Cases r (λ p. ReadsAs (now (text .entry)) p) (λ e. Refused (now (text .entry)) (length (now (words .entry))) e) ⌝ }
 {
@@ -80,7 +90,7 @@ pub fn read<'a>(text: &'a [u8], words: &'a mut [u64]) -> Result<Program<'a>, Rea
     if n > words.len() / 6 {
         return Err(ReadError::Few);
     }
-    let (front, back) = words.split_at_mut(4 * n);
+    let Parts { front, back } = split(words, 4 * n)?;
     let mut code = Table::new(front);
     let mut pending = Table::new(back);
     Ok(read_into(text, &mut code, &mut pending)?)

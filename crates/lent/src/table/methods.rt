@@ -10,6 +10,7 @@ ghost use Rattle.std.specs.shelf.Maps.{nth};
 ghost use Rattle.lent.specs.Tables.{items, capacity};
 ghost use Rattle.lent.specs.Views.{kept};
 use super::Full;
+use super::Mark;
 use super::Record;
 use super::Table;
 use crate::view::View;
@@ -90,6 +91,20 @@ impl<'a, R: Record> Table<'a, R> {
         if n < self.len {
             self.len = n;
         }
+    }
+
+    pub fn mark(&self) -> Mark
+        ensures { λ r. ⌜ r .height ≡ length (items decoded (now (self .entry))) ⌝ }
+    {
+        Mark { height: self.len() }
+    }
+
+    // Takes off what was pushed since the mark.
+    pub fn release(&mut self, mark: Mark)
+        ensures items { λ _. ⌜ items decoded (now (self .exit)) ≡ take (mark .height) (items decoded (now (self .entry))) ⌝ }
+        ensures capacity { λ _. ⌜ capacity (now (self .exit)) ≡ capacity (now (self .entry)) ⌝ }
+    {
+        self.truncate(mark.height);
     }
 
     // The records, to be read from now on; the words go with them, so the table has no room left.
