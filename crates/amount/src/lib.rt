@@ -1,4 +1,6 @@
 // How much there is to show of a program.
+#![tactic(auto)]
+
 ghost use Rattle.std.specs.Prelude.{◌≡◌, ◌-◌, ◌^◌, min, true, List, ◌++◌};
 ghost use Rattle.lang.specs.Amount as sizes;
 ghost use Rattle.lang.specs.Amount.{size_decls, size_proc};

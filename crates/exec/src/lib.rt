@@ -1,4 +1,6 @@
 // Running a procedure.
+#![tactic(auto)]
+
 ghost use Rattle.std.specs.Prelude.{◌≡◌, length, IfOk, MatchResult};
 ghost use Rattle.walk.specs.Walking.{rest, declared};
 ghost use Rattle.eval.specs.States.{counts};

@@ -1,4 +1,5 @@
 // The language of programs to be verified: tokens, nodes, and programs in lent words.
+#![tactic(auto)]
 
 pub mod code;
 pub mod position;

@@ -1,4 +1,5 @@
 // Records in words that the caller lends: the only place where records are packed into words.
+#![tactic(auto)]
 
 pub mod parts;
 pub mod table;

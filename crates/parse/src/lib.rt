@@ -1,4 +1,6 @@
 // From a text to a program in lent words.
+#![tactic(auto)]
+
 ghost use Rattle.std.specs.Prelude.{◌≡◌, ◌*◌, ◌≤◌, List, [], map, length, Some, None, MatchResult};
 ghost use Rattle.lent.specs.Tables.{items, capacity};
 ghost use Rattle.lang.specs.Code.{code_procs};

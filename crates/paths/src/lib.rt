@@ -1,4 +1,6 @@
 // Branches on a stack of what is given.
+#![tactic(auto)]
+
 ghost use Rattle.std.specs.Prelude.{ℕ};
 ghost use Rattle.paths.specs.Paths.{Carrying};
 

@@ -1,4 +1,6 @@
 // What is said of a text that is refused: FILE:LINE:COL, and why.
+#![tactic(auto)]
+
 ghost use Rattle.std.specs.Prelude.{◌≡◌, take, IfOk, string_bytes};
 ghost use Rattle.lang.specs.Positions.{position_behind};
 ghost use Rattle.report.specs.Places.{place_text};

@@ -1,4 +1,5 @@
 // The command `run`: reads a program, and runs one of its procedures.
+#![tactic(auto)]
 
 pub mod answer;
 pub mod command;

@@ -1,4 +1,6 @@
 // Which programs are sound.
+#![tactic(auto)]
+
 ghost use Rattle.std.specs.Prelude.{◌≡◌, ◌&&◌, List, [], is_ok, nat_le};
 ghost use Rattle.lang.specs.Base.{all_of};
 ghost use Rattle.sound.specs.Checking.{all_declared, well_written};

@@ -1,4 +1,6 @@
 // What is to be shown of a program, and that it suffices.
+#![tactic(auto)]
+
 ghost use Rattle.vc.specs.Theorem.{«DependsOnNamed», «LiteralsAgree», «ShownHolds»};
 ghost use Rattle.vc.specs.Texts.{«ReadAs»};
 ghost use Rattle.vc.specs.Worked.{Worked};

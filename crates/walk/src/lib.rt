@@ -1,4 +1,6 @@
 // How a program's code is gone through: by the indices of its nodes.
+#![tactic(auto)]
+
 ghost use Rattle.std.specs.Prelude.{◌≡◌, ◌+◌, ◌^◌, ◌<◌, min, true, length, MatchOption};
 ghost use Rattle.lang.specs.Holding.{code_of};
 ghost use Rattle.lang.specs.Instr.{instr};

@@ -10,7 +10,7 @@ use crate::view::View;
 impl<'a, R: Record> Table<'a, R> {
     // An empty table over all the words.
     pub fn new(words: &'a mut [u64]) -> Table<'a, R>
-        ensures empty { items decoded result ≡ [] }
+        ensures empty { items R.decoded result ≡ [] }
         ensures capacity { capacity result ≡ length words.old / 2 }
     {
         Table {
@@ -21,13 +21,13 @@ impl<'a, R: Record> Table<'a, R> {
     }
 
     pub fn len(&self) -> usize
-        ensures { result ≡ length (items decoded self.now) }
+        ensures { result ≡ length (items R.decoded self.now) }
     {
         self.len
     }
 
     pub fn get(&self, i: usize) -> Option<R>
-        ensures { result ≡ slice_get (items decoded self.now) i }
+        ensures { result ≡ slice_get (items R.decoded self.now) i }
     {
         if i >= self.len {
             return None;
@@ -37,7 +37,7 @@ impl<'a, R: Record> Table<'a, R> {
 
     // One record more at the end, or a refusal that leaves the table as it was.
     pub fn push(&mut self, x: R) -> Result<(), Full>
-        ensures cases { MatchResult result (λ _. items decoded self.new ≡ items decoded self.old ++ x ∷ []) (λ _. (items decoded self.new ≡ items decoded self.old) × (capacity self.old ≤ length (items decoded self.old))) }
+        ensures cases { MatchResult result (λ _. items R.decoded self.new ≡ items R.decoded self.old ++ x ∷ []) (λ _. (items R.decoded self.new ≡ items R.decoded self.old) × (capacity self.old ≤ length (items R.decoded self.old))) }
         ensures capacity { capacity self.new ≡ capacity self.old }
     {
         let at = self.len;
@@ -53,8 +53,8 @@ impl<'a, R: Record> Table<'a, R> {
 
     // Writes another record in the place of the one at `i`; false, with nothing changed, where there is none.
     pub fn set(&mut self, i: usize, x: R) -> bool
-        ensures items { items decoded self.new ≡ slice_set (items decoded self.old) i x }
-        ensures found { result ≡ nat_lt i (length (items decoded self.old)) }
+        ensures items { items R.decoded self.new ≡ slice_set (items R.decoded self.old) i x }
+        ensures found { result ≡ nat_lt i (length (items R.decoded self.old)) }
         ensures capacity { capacity self.new ≡ capacity self.old }
     {
         if i >= self.len {
@@ -68,9 +68,9 @@ impl<'a, R: Record> Table<'a, R> {
 
     // The last record, taken off the table.
     pub fn pop(&mut self) -> Option<R>
-        ensures items { items decoded self.old ≡ items decoded self.new ++ option_to_list result }
+        ensures items { items R.decoded self.old ≡ items R.decoded self.new ++ option_to_list result }
         ensures capacity { capacity self.new ≡ capacity self.old }
-        ensures test { is_some result ≡ nat_lt 0 (length (items decoded self.old)) }
+        ensures test { is_some result ≡ nat_lt 0 (length (items R.decoded self.old)) }
     {
         if self.len == 0 {
             return None;
@@ -81,7 +81,7 @@ impl<'a, R: Record> Table<'a, R> {
 
     // Keeps the first `n` records, or all if there are no more.
     pub fn truncate(&mut self, n: usize)
-        ensures items { items decoded self.new ≡ take n (items decoded self.old) }
+        ensures items { items R.decoded self.new ≡ take n (items R.decoded self.old) }
         ensures capacity { capacity self.new ≡ capacity self.old }
     {
         if n < self.len {
@@ -90,14 +90,14 @@ impl<'a, R: Record> Table<'a, R> {
     }
 
     pub fn mark(&self) -> Mark
-        ensures { result.height ≡ length (items decoded self.now) }
+        ensures { result.height ≡ length (items R.decoded self.now) }
     {
         Mark { height: self.len() }
     }
 
     // Takes off what was pushed since the mark.
     pub fn release(&mut self, mark: Mark)
-        ensures items { items decoded self.new ≡ take mark.height (items decoded self.old) }
+        ensures items { items R.decoded self.new ≡ take mark.height (items R.decoded self.old) }
         ensures capacity { capacity self.new ≡ capacity self.old }
     {
         self.truncate(mark.height);
@@ -105,8 +105,8 @@ impl<'a, R: Record> Table<'a, R> {
 
     // The records, to be read from now on; the words go with them, so the table has no room left.
     pub fn freeze(&mut self) -> View<'a, R>
-        ensures value { kept decoded result ≡ items decoded self.old }
-        ensures items { items decoded self.new ≡ [] }
+        ensures value { kept R.decoded result ≡ items R.decoded self.old }
+        ensures items { items R.decoded self.new ≡ [] }
         ensures capacity { capacity self.new ≡ 0 }
     {
         let len = self.len;

@@ -7,13 +7,13 @@ use crate::table::Record;
 
 impl<'a, R: Record> View<'a, R> {
     pub fn len(&self) -> usize
-        ensures { result ≡ length (kept decoded self.now) }
+        ensures { result ≡ length (kept R.decoded self.now) }
     {
         self.words.len() / 2
     }
 
     pub fn get(&self, i: usize) -> Option<R>
-        ensures { result ≡ slice_get (kept decoded self.now) i }
+        ensures { result ≡ slice_get (kept R.decoded self.now) i }
     {
         if i >= self.words.len() / 2 {
             return None;

@@ -9,7 +9,7 @@ slice-bounds-result-end c =
     omega (arith, run_within text c.args.at fits, c.run-end.ensures)
 
 pub returns-then-at-text : goal.returns-then-at-text
-returns-then-at-text c = rw c.run-end.ensures (part_run c.args.text.now c.args.at)
+returns-then-at-text c = rw c.run_end.ensures (part_run c.args.text.now c.args.at)
 
 pub returns-else-at-text : goal.returns-else-at-text
 returns-else-at-text c = sym (run_past _ _ c.if-at-text.false)

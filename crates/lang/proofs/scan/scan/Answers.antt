@@ -18,7 +18,7 @@ pub returns : goal.returns
 returns c =
     let text = c.args.text.now in
     let skipped = c.skip-start.ensures in
-    let word = c.word-end-end.ensures in
+    let word = c.word_end-end.ensures in
     record {
       ahead = ahead_word text _ _ c.kind-token.result word.start word.words word.run c.kind-token.ensures ∙ tokens_same _ _ skipped.words;
       start = skipped.start;

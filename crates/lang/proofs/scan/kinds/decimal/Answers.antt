@@ -9,7 +9,7 @@ pub returns-in-err-n : goal.returns-in-err-n
 returns-in-err-n c = c.from-residual.ensures ∙ sym (decimal_more _ _ _ None c.loop-b-test.true c.in-err-n.ensures) ∙ c.loop-b.invariant.0
 
 pub loop-b-preserved : goal.loop-b-preserved
-loop-b-preserved c = (sym (decimal_more _ _ _ (Some c.in-ok-n.n) c.loop-b-test.true c.in-ok-n.ensures) ∙ c.loop-b.invariant.0, omega arith)
+loop-b-preserved c = (sym (decimal_more _ _ _ (Some c.in_ok-n.n) c.loop-b-test.true c.in_ok-n.ensures) ∙ c.loop-b.invariant.0, omega arith)
 
 pub returns : goal.returns
 returns c = sym (decimal_all _ _ _ c.loop-b-test.false c.loop-b.invariant.1) ∙ c.loop-b.invariant.0

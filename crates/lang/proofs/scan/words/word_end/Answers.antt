@@ -3,7 +3,7 @@ use Rattle.std.proofs.lemmas.Bool.{both_ways}
 use Rattle.lang.specs.Places.{pair}
 use Rattle.lang.proofs.Lexing.{run_more, run_within, words_run, words_one, words_two, part_run, part_one, part_two}
 use Rattle.lang.proofs.scan.words.word_end.Goals as goal
-use Rattle.lang.proofs.scan.words.word_end.Goals.{else-from-text-via-then-from-text+else-is-pair, else-from-text-via-else-from-text}
+use Rattle.lang.proofs.scan.words.word_end.Goals.{else-from-text-via-then-from-text+else-is_pair, else-from-text-via-else-from-text}
 
 pub returns-then-is-run : goal.returns-then-is-run
 returns-then-is-run c =
@@ -36,9 +36,9 @@ pub returns-else-from-text : goal.returns-else-from-text
 returns-else-from-text c =
     let text = c.args.text.now in
     let from = c.args.from in
-    let e = sym c.if-is-run.ensures in
+    let e = sym c.if-is_run.ensures in
     let single : from + 1 < length text → pair (get_or text from 0) (get_or text (from + 1) 0) ≡ false =
-    elim c.else-from-text.branch [ else-from-text-via-then-from-text+else-is-pair w ↦ λ _. sym w.if-is-pair.ensures | else-from-text-via-else-from-text w ↦ λ h. absurd (omega arith) ] in
+    elim c.else-from-text.branch [ else-from-text-via-then-from-text+else-is_pair w ↦ λ _. sym w.if-is_pair.ensures | else-from-text-via-else-from-text w ↦ λ h. absurd (omega arith) ] in
     record {
       words = rw (part_one text from c.requires.inside) (words_one text from c.requires.inside c.requires.word e single);
       run = λ f. absurd (both_ways _ e f);
