@@ -6,4 +6,4 @@ use Rattle.lang.proofs.Lexing.{same_decides}
 use Rattle.lang.proofs.scan.same_name.Goals as goal
 
 pub returns : goal.returns
-returns c = same_from_decides _ _ (slice_eq-Decides Decides-eqb _ _ _ c.eq.ensures) (same_decides _ _) ∙ ap₂ same c.name.ensures c.name-2.ensures
+returns c = same_from_decides _ _ (slice_eq-Decides Decides-eqb _ _ _ c.eq.ensures) (same_decides c.name.result.now c.name-2.result.now) ∙ ap₂ same c.name.ensures c.name-2.ensures

@@ -5,12 +5,12 @@ use Rattle.lang.proofs.Lexing.{run_more, run_within, words_run, words_one, words
 use Rattle.lang.proofs.scan.words.word_end.Goals as goal
 use Rattle.lang.proofs.scan.words.word_end.Goals.{else-from-text-via-then-from-text+else-is_pair, else-from-text-via-else-from-text}
 
-pub returns-then-is-run : goal.returns-then-is-run
-returns-then-is-run c =
+pub returns-then-is_run : goal.returns-then-is_run
+returns-then-is_run c =
     let text = c.args.text.now in
     let from = c.args.from in
-    let is = c.run-end.ensures in
-    let e = sym c.if-is-run.ensures in
+    let is = c.run_end.ensures in
+    let e = sym c.if-is_run.ensures in
     let fits : from ≤ length text = omega arith in
     record {
       words = rw (is, part_run text from) (words_run text from c.requires.inside c.requires.word e);
@@ -19,14 +19,14 @@ returns-then-is-run c =
       within = omega (arith, run_within text from fits);
     }
 
-pub returns-then-is-pair : goal.returns-then-is-pair
-returns-then-is-pair c =
+pub returns-then-is_pair : goal.returns-then-is_pair
+returns-then-is_pair c =
     let text = c.args.text.now in
     let from = c.args.from in
     let more = c.if-from-text.true in
-    let e = sym c.if-is-run.ensures in
+    let e = sym c.if-is_run.ensures in
     record {
-      words = rw (part_two text from more) (words_two text from c.requires.inside c.requires.word e more (sym c.if-is-pair.ensures));
+      words = rw (part_two text from more) (words_two text from c.requires.inside c.requires.word e more (sym c.if-is_pair.ensures));
       run = λ f. absurd (both_ways _ e f);
       start = omega arith;
       within = omega arith;
