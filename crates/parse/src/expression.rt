@@ -1,5 +1,5 @@
 // Reads an expression. What nests is kept in a table and not on the machine's stack.
-ghost use Rattle.std.specs.Prelude.{◌≡◌, ◌<◌, true, [], length, None, MatchResult, OnOk};
+ghost use Rattle.std.specs.Prelude.{◌≡◌, ◌<◌, true, [], length, None, IfOk, MatchResult, OnOk};
 ghost use Rattle.parse.specs.Unbounded.{sum∞};
 ghost use Rattle.lang.specs.Code.{code_expr};
 ghost use Rattle.lang.specs.Grammar.{starts, additive, multiplicative};
@@ -55,7 +55,7 @@ impl<'s, 'a> Reader<'s, 'a> {
     fn old_operand(&mut self, text: &[u8]) -> Result<Step, NoText>
         requires { (Room (snap text.now self.old)) × (starts Old (snap text.now self.old).ahead ≡ true) }
         ensures reads { Steps text.now (AtOperand text.now) (snap text.now self.old) (snap text.now self.new) result }
-        ensures used { made result (λ next. Used (snap text.now self.old) (snap text.now self.new) next) }
+        ensures used { IfOk result (λ next. Used (snap text.now self.old) (snap text.now self.new) next) }
     {
         self.advance(text);
         let place = self.name(text)?;
@@ -66,7 +66,7 @@ impl<'s, 'a> Reader<'s, 'a> {
     fn operand(&mut self, text: &[u8]) -> Result<Step, NoText>
         requires { Room (snap text.now self.old) }
         ensures reads { Steps text.now (AtOperand text.now) (snap text.now self.old) (snap text.now self.new) result }
-        ensures used { made result (λ next. Used (snap text.now self.old) (snap text.now self.new) next) }
+        ensures used { IfOk result (λ next. Used (snap text.now self.old) (snap text.now self.new) next) }
     {
         if self.at(text, Fixed::LeftParen) {
             self.begin(text, Open::Paren);
@@ -152,7 +152,7 @@ impl<'s, 'a> Reader<'s, 'a> {
     fn leave(&mut self, text: &[u8]) -> Result<Step, NoText>
         requires { Room (snap text.now self.old) }
         ensures reads { (before : Snap) → length before.pending < length (snap text.now self.old).pending → BehindSum text.now before (snap text.now self.old) → MatchResult result (λ next. InExpr text.now before (snap text.now self.new) next) (λ _. sum∞ before.ahead ≡ None) }
-        ensures used { made result (λ next. Used (snap text.now self.old) (snap text.now self.new) next) }
+        ensures used { IfOk result (λ next. Used (snap text.now self.old) (snap text.now self.new) next) }
     {
         let Some(part) = self.finish(text) else {
             return Err(self.missing(Expected::Operand));
@@ -177,7 +177,7 @@ impl<'s, 'a> Reader<'s, 'a> {
     fn operator(&mut self, text: &[u8], base: usize) -> Result<Step, NoText>
         requires { Room (snap text.now self.old) }
         ensures reads { (before : Snap) → base ≡ length before.pending → BehindAtom text.now before (snap text.now self.old) → MatchResult result (λ next. InExpr text.now before (snap text.now self.new) next) (λ _. sum∞ before.ahead ≡ None) }
-        ensures used { made result (λ next. Used (snap text.now self.old) (snap text.now self.new) next) }
+        ensures used { IfOk result (λ next. Used (snap text.now self.old) (snap text.now self.new) next) }
     {
         self.complete(text, base, true);
         let place = Place(self.cursor.start);

@@ -1,5 +1,5 @@
 // Reads a formula. What nests is kept in a table and not on the machine's stack.
-ghost use Rattle.std.specs.Prelude.{◌≡◌, ◌+◌, ◌<◌, ◌≤◌, true, [], length, is_some, Some, None, MatchResult, OnOk};
+ghost use Rattle.std.specs.Prelude.{◌≡◌, ◌+◌, ◌<◌, ◌≤◌, true, [], length, is_some, Some, None, IfOk, MatchResult, OnOk};
 ghost use Rattle.parse.specs.Unbounded.{formula∞};
 ghost use Rattle.lang.specs.Code.{code_bool};
 ghost use Rattle.lang.specs.Grammar.{starts, comparing, expect};
@@ -152,7 +152,7 @@ impl<'s, 'a> Reader<'s, 'a> {
     fn universal(&mut self, text: &[u8]) -> Result<Turn, NoText>
         requires { (Room (snap text.now self.old)) × (starts the.All (snap text.now self.old).ahead ≡ true) }
         ensures reads { Turns AtUnit (snap text.now self.old) (snap text.now self.new) result }
-        ensures used { made result (λ next. Used turn.Unit (snap text.now self.old) (snap text.now self.new) next) }
+        ensures used { IfOk result (λ next. Used turn.Unit (snap text.now self.old) (snap text.now self.new) next) }
     {
         self.advance(text);
         let (name, bound) = self.all_head(text)?;
@@ -164,7 +164,7 @@ impl<'s, 'a> Reader<'s, 'a> {
     fn unit(&mut self, text: &[u8]) -> Result<Turn, NoText>
         requires { Room (snap text.now self.old) }
         ensures reads { Turns AtUnit (snap text.now self.old) (snap text.now self.new) result }
-        ensures used { made result (λ next. Used turn.Unit (snap text.now self.old) (snap text.now self.new) next) }
+        ensures used { IfOk result (λ next. Used turn.Unit (snap text.now self.old) (snap text.now self.new) next) }
     {
         let place = Place(self.cursor.start);
         if self.at(text, Fixed::Not) {
@@ -240,7 +240,7 @@ impl<'s, 'a> Reader<'s, 'a> {
     fn behind_formula(&mut self, text: &[u8], base: usize) -> Result<Turn, NoText>
         requires { Room (snap text.now self.old) }
         ensures reads { (before : Snap) → base ≡ length before.pending → BehindFormula before (snap text.now self.old) → MatchResult result (λ next. InBool before (snap text.now self.new) next) (λ _. formula∞ before.ahead ≡ None) }
-        ensures used { made result (λ next. Used turn.Whole (snap text.now self.old) (snap text.now self.new) next) }
+        ensures used { IfOk result (λ next. Used turn.Whole (snap text.now self.old) (snap text.now self.new) next) }
     {
         if self.height(text) <= base {
             return Ok(Turn::Done);

@@ -1,9 +1,9 @@
 use Rattle.std.proofs.Common.{◌≡◌, ◌+◌, ◌*◌, length, sym, ap, ◌∙◌, arith, length-append}
 use Rattle.parse.proofs.read.Goals as goal
 
-pub read-into-requires : goal.read-into-requires
-read-into-requires c =
-    let split = c.in-ok-front in
+pub read_into-requires : goal.read_into-requires
+read_into-requires c =
+    let split = c.in_ok-front in
     let parts = split.field-0 in
     let parted = split.ensures in
     let whole : length parts.front.now + length parts.back.now ≡ length c.args.words.now = sym (length-append parts.front.now parts.back.now) ∙ ap length parted.whole in
@@ -15,4 +15,4 @@ read-into-requires c =
     }
 
 pub returns : goal.returns
-returns c = c.in-ok-read-into.ensures
+returns c = c.in_ok-read_into.ensures

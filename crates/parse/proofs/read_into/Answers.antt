@@ -10,18 +10,18 @@ use Rattle.parse.proofs.read_into.Goals as goal
 pub program-requires : goal.program-requires
 program-requires c = room_for c.args.text.now _ (ap (map (instr c.args.text.now)) c.requires.empty.0) c.requires.empty.1 c.scan.ensures.ahead c.requires.room.0 c.requires.room.1
 
-pub returns-in-err-width : goal.returns-in-err-width
-returns-in-err-width c =
+pub returns-in_err-width : goal.returns-in_err-width
+returns-in_err-width c =
     let text = c.args.text.now in
-    let p = err_from_is_err_and c.from-residual.result c.from-residual.ensures.1 in
-    rw p.1 (reads_is text ∙ ap program∞ (sym c.scan.ensures.ahead) ∙ c.in-err-width.ensures)
+    let p = err_from_is_err_and c.from_residual.result c.from_residual.ensures.1 in
+    rw p.1 (reads_is text ∙ ap program∞ (sym c.scan.ensures.ahead) ∙ c.in_err-width.ensures)
 
 pub returns : goal.returns
 returns c =
     let text = c.args.text.now in
-    let h = c.in-ok-width.ensures in
+    let h = c.in_ok-width.ensures in
     record {
-      program = record { width = c.in-ok-width.width; procs = h.procs };
+      program = record { width = c.in_ok-width.width; procs = h.procs };
       reads = reads_is text ∙ ap program∞ (sym c.scan.ensures.ahead) ∙ h.parsed;
       text = refl;
       holds = record {

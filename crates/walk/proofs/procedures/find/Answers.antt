@@ -8,5 +8,5 @@ use Rattle.walk.proofs.procedures.find.Goals as goal
 
 pub returns : goal.returns
 returns c qs e =
-    let P : Word → Type 0 = λ x. MatchOption c.find-named.result (find_proc qs x ≡ None) (λ i. ProcFound c.args.program.now i qs x) in
-    subst P c.name.ensures (c.find-named.ensures qs e)
+    let P : Word → Type 0 = λ x. MatchOption c.find_named.result (find_proc qs x ≡ None) (λ i. ProcFound c.args.program.now i qs x) in
+    subst P c.name.ensures (c.find_named.ensures qs e)

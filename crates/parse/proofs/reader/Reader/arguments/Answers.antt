@@ -15,26 +15,26 @@ use Rattle.parse.proofs.Rooms.{paid_then, paid_item, paid_advance}
 use Rattle.parse.proofs.Rules.{names_rule}
 use Rattle.parse.proofs.reader.Reader.arguments.Goals as goal
 
-pub returns-in-err-place : goal.returns-in-err-place
-returns-in-err-place c =
-    let p = err_from_is_err_and c.from-residual.result c.from-residual.ensures.1 in
+pub returns-in_err-place : goal.returns-in_err-place
+returns-in_err-place c =
+    let p = err_from_is_err_and c.from_residual.result c.from_residual.ensures.1 in
     let text = c.args.text.now in
     let s₀ = snap text c.args.self.now in
     let s = snap text c.names.self in
-    rw p.1 (record { reads = no_names s₀ (sym c.if-at.ensures) (no_item a_name arg_code (λ x. one_front _) RightParen names∞ names_rule s₀ s c.names.invariant.0 c.in-err-place.ensures); paid = tt })
+    rw p.1 (record { reads = no_names s₀ (sym c.if-at.ensures) (no_item a_name arg_code (λ x. one_front _) RightParen names∞ names_rule s₀ s c.names.invariant.0 c.in_err-place.ensures); paid = tt })
 
-pub returns-in-err-expect : goal.returns-in-err-expect
-returns-in-err-expect c =
-    let p = err_from_is_err_and c.from-residual-in-err-expect.result c.from-residual-in-err-expect.ensures.1 in
+pub returns-in_err-expect : goal.returns-in_err-expect
+returns-in_err-expect c =
+    let p = err_from_is_err_and c.from_residual-in_err-expect.result c.from_residual-in_err-expect.ensures.1 in
     let text = c.args.text.now in
     let s₀ = snap text c.args.self.now in
     let s = snap text c.names.self in
     let t = snap text c.emit.new.self in
-    let x = name_at text c.in-ok-place.place.0 in
-    let n = c.in-ok-place.ensures in
+    let x = name_at text c.in_ok-place.place.0 in
+    let n = c.in_ok-place.ensures in
     let e : t ≡ emitted (instr.arg x) (advanced s) = c.emit.ensures ∙ ap (emitted (instr.arg x)) n.1 in
     let named : a_name s.ahead ≡ Some (x, t.ahead) = n.0 ∙ ap (λ u. Some (x, u.ahead)) (sym c.emit.ensures) in
-    let none = c.in-err-expect.ensures in
+    let none = c.in_err-expect.ensures in
     rw p.1 (record { reads = no_names s₀ (sym c.if-at.ensures) (no_end a_name arg_code (λ x. one_front _) RightParen names∞ names_rule s₀ s c.names.invariant.0 t x named (sym c.if-not-at.ensures) none); paid = tt })
 
 pub returns-then-not-at : goal.returns-then-not-at
@@ -43,11 +43,11 @@ returns-then-not-at c =
     let s₀ = snap text c.args.self.now in
     let s = snap text c.names.self in
     let t = snap text c.emit.new.self in
-    let x = name_at text c.in-ok-place.place.0 in
-    let n = c.in-ok-place.ensures in
+    let x = name_at text c.in_ok-place.place.0 in
+    let n = c.in_ok-place.ensures in
     let e : t ≡ emitted (instr.arg x) (advanced s) = c.emit.ensures ∙ ap (emitted (instr.arg x)) n.1 in
     let named : a_name s.ahead ≡ Some (x, t.ahead) = n.0 ∙ ap (λ u. Some (x, u.ahead)) (sym c.emit.ensures) in
-    let f = c.in-ok-expect.ensures in
+    let f = c.in_ok-expect.ensures in
     let u = snap text c.expect.new.self in
     record {
       reads = some_names s₀ u (sym c.if-at.ensures) (last_item a_name arg_code (λ x. one_front _) RightParen names∞ names_rule s₀ s c.names.invariant.0 t x named (ap (λ u. u.code) e) (ap (λ u. u.pending) e) (sym c.if-not-at.ensures) u f.0 (ap (λ u. u.code) f.1) (ap (λ u. u.pending) f.1));
@@ -60,8 +60,8 @@ names-preserved c =
     let s₀ = snap text c.args.self.now in
     let s = snap text c.names.self in
     let t = snap text c.emit.new.self in
-    let x = name_at text c.in-ok-place.place.0 in
-    let n = c.in-ok-place.ensures in
+    let x = name_at text c.in_ok-place.place.0 in
+    let n = c.in_ok-place.ensures in
     let e : t ≡ emitted (instr.arg x) (advanced s) = c.emit.ensures ∙ ap (emitted (instr.arg x)) n.1 in
     let named : a_name s.ahead ≡ Some (x, t.ahead) = n.0 ∙ ap (λ u. Some (x, u.ahead)) (sym c.emit.ensures) in
     let b : starts Comma t.ahead ≡ true = sym c.if-not-at.ensures in

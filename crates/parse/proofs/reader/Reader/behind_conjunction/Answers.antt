@@ -14,10 +14,10 @@ returns-then-at c =
     let text = c.args.text.now in
     let base = c.args.base in
     let s = snap text c.args.self.now in
-    let t = snap text c.write-link.new.self in
-    let one = c.write-link.ensures in
+    let t = snap text c.write_link.new.self in
+    let one = c.write_link.ensures in
     let same : t.ahead ≡ s.ahead = ap (λ x. x.ahead) one.after ∙ linked_ahead text link.Or base s in
-    let p : Place = record { 0 = c.write-link.new.self.cursor.start } in
+    let p : Place = record { 0 = c.write_link.new.self.cursor.start } in
     let after = c.enter.ensures in
     let word = sym c.if-at.ensures in
     record {
@@ -30,10 +30,10 @@ returns-then-at-2 c =
     let text = c.args.text.now in
     let base = c.args.base in
     let s = snap text c.args.self.now in
-    let t = snap text c.write-link.new.self in
-    let one = c.write-link.ensures in
+    let t = snap text c.write_link.new.self in
+    let one = c.write_link.ensures in
     let same : t.ahead ≡ s.ahead = ap (λ x. x.ahead) one.after ∙ linked_ahead text link.Or base s in
-    let p : Place = record { 0 = c.write-link.new.self.cursor.start } in
+    let p : Place = record { 0 = c.write_link.new.self.cursor.start } in
     let after = c.enter-then-at-2.ensures in
     let word = sym c.if-at-2.ensures in
     record {
@@ -46,8 +46,8 @@ returns c =
     let text = c.args.text.now in
     let base = c.args.base in
     let s = snap text c.args.self.now in
-    let t = snap text c.write-link.new.self in
-    let one = c.write-link.ensures in
+    let t = snap text c.write_link.new.self in
+    let one = c.write_link.ensures in
     let same : t.ahead ≡ s.ahead = ap (λ x. x.ahead) one.after ∙ linked_ahead text link.Or base s in
     record {
       reads = λ before b h. formula_ends before t (lone_disjunction before text s t base b one.after h) (sym c.if-at.ensures) (sym c.if-at-2.ensures);

@@ -19,10 +19,10 @@ returns-then-height-base c =
       used = done_used s;
     }
 
-pub returns-in-default : goal.returns-in-default
-returns-in-default c =
+pub returns-in_default : goal.returns-in_default
+returns-in_default c =
     let s = snap c.args.text.now c.args.self.now in
-    let none = c.in-default.ensures.value in
+    let none = c.in_default.ensures.value in
     record {
       reads = λ before b h. leaves_nothing before s h (omega (arith, c.height.ensures, c.if-height-base.false, b))
           (λ p e. let z : ◌≡◌ {A = ℕ} 0 1 = cc in omega arith)
@@ -45,59 +45,59 @@ returns-in-Implies c =
       used = subst (λ t. Used turn.Whole s t turn.Whole) (sym after) (implication_used s some);
     }
 
-pub returns-in-err-expect : goal.returns-in-err-expect
-returns-in-err-expect c =
-    let p = err_from_is_err_and c.from-residual.result c.from-residual.ensures.1 in
+pub returns-in_err-expect-in-Bracket : goal.returns-in_err-expect-in-Bracket
+returns-in_err-expect-in-Bracket c =
+    let p = err_from_is_err_and c.from_residual.result c.from_residual.ensures.1 in
     let s = snap c.args.text.now c.args.self.now in
     let told = c.in-Some.ensures in
     let last = ap Some (sym c.in-Bracket.is) ∙ told.value in
-    let none : expect RightBracket s.ahead ≡ None = ap (λ t. expect RightBracket t.ahead) (sym told.after) ∙ c.in-err-expect.ensures in
+    let none : expect RightBracket s.ahead ≡ None = ap (λ t. expect RightBracket t.ahead) (sym told.after) ∙ c.in_err-expect-in-Bracket.ensures in
     rw p.1 (record { reads = λ before b h. leaves_no_brackets before s h (omega (arith, c.height.ensures, c.if-height-base.false, b)) last none; used = tt })
 
-pub returns-in-err-end-all : goal.returns-in-err-end-all
-returns-in-err-end-all c =
-    let p = err_from_is_err_and c.from-residual-in-err-end-all.result c.from-residual-in-err-end-all.ensures.1 in
+pub returns-in_err-end_all-in-All : goal.returns-in_err-end_all-in-All
+returns-in_err-end_all-in-All c =
+    let p = err_from_is_err_and c.from_residual-in_err-end_all-in-All.result c.from_residual-in_err-end_all-in-All.ensures.1 in
     let s = snap c.args.text.now c.args.self.now in
     let told = c.in-Some.ensures in
     let last = ap Some (sym c.in-All.is) ∙ told.value in
-    let none : expect RightBrace s.ahead ≡ None = ap (λ t. expect RightBrace t.ahead) (sym told.after) ∙ c.in-err-end-all.ensures in
+    let none : expect RightBrace s.ahead ≡ None = ap (λ t. expect RightBrace t.ahead) (sym told.after) ∙ c.in_err-end_all-in-All.ensures in
     rw p.1 (record { reads = λ before b h. leaves_no_all before s c.in-All.at h (omega (arith, c.height.ensures, c.if-height-base.false, b)) last none; used = tt })
 
-pub returns-in-default-part : goal.returns-in-default-part
-returns-in-default-part c =
+pub returns-in_default-part : goal.returns-in_default-part
+returns-in_default-part c =
     let s = snap c.args.text.now c.args.self.now in
     let told = c.in-Some.ensures.value in
     record {
       reads = λ before b h. leaves_nothing before s h (omega (arith, c.height.ensures, c.if-height-base.false, b))
-          (λ p e. let same : c.in-Some.part ≡ Implies p = cc in c.in-default-part.not-Implies p same)
-          (λ e. let same : c.in-Some.part ≡ Bracket = cc in c.in-default-part.not-Bracket same)
-          (λ n e. let same : c.in-Some.part ≡ All n = cc in c.in-default-part.not-All n same);
+          (λ p e. let same : c.in-Some.part ≡ Implies p = cc in c.in_default-part.not-Implies p same)
+          (λ e. let same : c.in-Some.part ≡ Bracket = cc in c.in_default-part.not-Bracket same)
+          (λ n e. let same : c.in-Some.part ≡ All n = cc in c.in_default-part.not-All n same);
       used = tt;
     }
 
-pub returns-in-ok-expect : goal.returns-in-ok-expect
-returns-in-ok-expect c =
+pub returns-in_ok-expect-in-Bracket : goal.returns-in_ok-expect-in-Bracket
+returns-in_ok-expect-in-Bracket c =
     let text = c.args.text.now in
     let s = snap text c.args.self.now in
     let told = c.in-Some.ensures in
     let last = ap Some (sym c.in-Bracket.is) ∙ told.value in
-    let after : snap text c.expect.new.self ≡ advanced (closed s) = c.in-ok-expect.ensures.1 ∙ ap advanced told.after in
-    let found : expect RightBracket s.ahead ≡ Some (onward s.ahead) = ap (λ t. expect RightBracket t.ahead) (sym told.after) ∙ c.in-ok-expect.ensures.0 ∙ ap (λ t. Some t.ahead) after in
+    let after : snap text c.expect.new.self ≡ advanced (closed s) = c.in_ok-expect-in-Bracket.ensures.1 ∙ ap advanced told.after in
+    let found : expect RightBracket s.ahead ≡ Some (onward s.ahead) = ap (λ t. expect RightBracket t.ahead) (sym told.after) ∙ c.in_ok-expect-in-Bracket.ensures.0 ∙ ap (λ t. Some t.ahead) after in
     let fewer : length (onward s.ahead) < length s.ahead = omega (arith, expect_long RightBracket s.ahead (onward s.ahead) found) in
     record {
       reads = λ before b h. subst (BehindUnit before) (sym after) (leaves_brackets before s h (omega (arith, c.height.ensures, c.if-height-base.false, b)) last found);
       used = subst (λ t. Used turn.Whole s t turn.Behind) (sym after) (brackets_used s fewer);
     }
 
-pub returns-in-ok-end-all : goal.returns-in-ok-end-all
-returns-in-ok-end-all c =
+pub returns-in_ok-end_all-in-All : goal.returns-in_ok-end_all-in-All
+returns-in_ok-end_all-in-All c =
     let text = c.args.text.now in
     let s = snap text c.args.self.now in
     let n = c.in-All.at in
     let told = c.in-Some.ensures in
     let last = ap Some (sym c.in-All.is) ∙ told.value in
-    let after : snap text c.end_all.new.self ≡ all_ended n (advanced (closed s)) = c.in-ok-end-all.ensures.1 ∙ ap (λ t. all_ended n (advanced t)) told.after in
-    let found : expect RightBrace s.ahead ≡ Some (onward s.ahead) = ap (λ t. expect RightBrace t.ahead) (sym told.after) ∙ c.in-ok-end-all.ensures.0 ∙ ap (λ t. Some t.ahead) after in
+    let after : snap text c.end_all.new.self ≡ all_ended n (advanced (closed s)) = c.in_ok-end_all-in-All.ensures.1 ∙ ap (λ t. all_ended n (advanced t)) told.after in
+    let found : expect RightBrace s.ahead ≡ Some (onward s.ahead) = ap (λ t. expect RightBrace t.ahead) (sym told.after) ∙ c.in_ok-end_all-in-All.ensures.0 ∙ ap (λ t. Some t.ahead) after in
     let fewer : length (onward s.ahead) < length s.ahead = omega (arith, expect_long RightBrace s.ahead (onward s.ahead) found) in
     record {
       reads = λ before b h. subst (BehindUnit before) (sym after) (leaves_all before s n h (omega (arith, c.height.ensures, c.if-height-base.false, b)) last found);

@@ -9,13 +9,13 @@ use Rattle.parse.proofs.InBool.{denial_written, lone_conjunction, and_reads, con
 use Rattle.parse.proofs.Rooms.{paid_then}
 use Rattle.parse.proofs.reader.Reader.behind_unit.Goals as goal
 
-pub returns-then-write-link : goal.returns-then-write-link
-returns-then-write-link c =
+pub returns-then-write_link : goal.returns-then-write_link
+returns-then-write_link c =
     let text = c.args.text.now in
     let base = c.args.base in
     let s = snap text c.args.self.now in
-    let t = snap text c.write-link.new.self in
-    let one = c.if-write-link.ensures in
+    let t = snap text c.write_link.new.self in
+    let one = c.if-write_link.ensures in
     record {
       reads = λ before b h. denial_written before text s t base b one.after (sym one.some) h;
       used = subst (λ x. Used turn.Behind s x turn.Behind) (sym one.after) (not_used text base s (sym one.some));
@@ -26,13 +26,13 @@ returns-then-at c =
     let text = c.args.text.now in
     let base = c.args.base in
     let s = snap text c.args.self.now in
-    let t = snap text c.write-link.new.self in
-    let u = snap text c.write-link-2.new.self in
-    let one = c.if-write-link.ensures in
-    let two = c.write-link-2.ensures in
+    let t = snap text c.write_link.new.self in
+    let u = snap text c.write_link-2.new.self in
+    let one = c.if-write_link.ensures in
+    let two = c.write_link-2.ensures in
     let same = links_ahead text s t u base one.after two.after in
     let paid = paid_then s t u one.paid two.paid in
-    let p : Place = record { 0 = c.write-link-2.new.self.cursor.start } in
+    let p : Place = record { 0 = c.write_link-2.new.self.cursor.start } in
     let after = c.enter.ensures in
     let word = sym c.if-at.ensures in
     record {
@@ -45,13 +45,13 @@ returns c =
     let text = c.args.text.now in
     let base = c.args.base in
     let s = snap text c.args.self.now in
-    let t = snap text c.write-link.new.self in
-    let u = snap text c.write-link-2.new.self in
-    let one = c.if-write-link.ensures in
-    let two = c.write-link-2.ensures in
+    let t = snap text c.write_link.new.self in
+    let u = snap text c.write_link-2.new.self in
+    let one = c.if-write_link.ensures in
+    let two = c.write_link-2.ensures in
     let same = links_ahead text s t u base one.after two.after in
     let paid = paid_then s t u one.paid two.paid in
-    let told = c.behind-conjunction.ensures in
+    let told = c.behind_conjunction.ensures in
     record {
       reads = λ before b h. told.reads before b (conjunction_ends before u (lone_conjunction before text s t u base b one.after two.after (sym one.some) h) (sym c.if-at.ensures));
       used = used_after turn.Behind s u _ _ paid same told.used;

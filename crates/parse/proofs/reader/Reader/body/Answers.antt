@@ -11,56 +11,56 @@ use Rattle.parse.proofs.Procs.{body_begins, body_room, body_paid}
 use Rattle.parse.proofs.Rooms.{room_after}
 use Rattle.parse.proofs.reader.Reader.body.Goals as goal
 
-pub returns-in-err-expect : goal.returns-in-err-expect
+pub returns-in_err-expect : goal.returns-in_err-expect
 unfolding body∞
-returns-in-err-expect c =
-    let p = err_from_is_err_and c.from-residual.result c.from-residual.ensures.1 in
-    rw p.1 (record { reads = rw c.in-err-expect.ensures; paid = tt })
+returns-in_err-expect c =
+    let p = err_from_is_err_and c.from_residual.result c.from_residual.ensures.1 in
+    rw p.1 (record { reads = rw c.in_err-expect.ensures; paid = tt })
 
-pub returns-in-err-local-variables : goal.returns-in-err-local-variables
+pub returns-in_err-local_variables : goal.returns-in_err-local_variables
 unfolding body∞
-returns-in-err-local-variables c =
-    let p = err_from_is_err_and c.from-residual-in-err-local-variables.result c.from-residual-in-err-local-variables.ensures.1 in
-    rw p.1 (record { reads = rw (c.in-ok-expect.ensures.0, c.in-err-local-variables.ensures.reads); paid = tt })
+returns-in_err-local_variables c =
+    let p = err_from_is_err_and c.from_residual-in_err-local_variables.result c.from_residual-in_err-local_variables.ensures.1 in
+    rw p.1 (record { reads = rw (c.in_ok-expect.ensures.0, c.in_err-local_variables.ensures.reads); paid = tt })
 
 pub statements-requires : goal.statements-requires
 statements-requires c =
     let text = c.args.text.now in
     let s = snap text c.args.self.now in
     let t = snap text c.expect.new.self in
-    let first = c.in-ok-expect.ensures in
+    let first = c.in_ok-expect.ensures in
     let long = expect_starts LeftBrace s.ahead t.ahead first.0 in
-    let u = snap text c.local-variables.new.self in
-    let ys = c.in-ok-local-variables.ensures in
+    let u = snap text c.local_variables.new.self in
+    let ys = c.in_ok-local_variables.ensures in
     let paid₁ : Paid s (emitted (instr.body 0) u) = body_begins s t u first.1 long ys.paid in
     room_after s _ c.requires paid₁
 
-pub returns-in-err-statements : goal.returns-in-err-statements
+pub returns-in_err-statements : goal.returns-in_err-statements
 unfolding body∞
-returns-in-err-statements c =
-    let p = err_from_is_err_and c.from-residual-in-err-statements.result c.from-residual-in-err-statements.ensures.1 in
+returns-in_err-statements c =
+    let p = err_from_is_err_and c.from_residual-in_err-statements.result c.from_residual-in_err-statements.ensures.1 in
     let text = c.args.text.now in
     let s = snap text c.args.self.now in
     let t = snap text c.expect.new.self in
-    let first = c.in-ok-expect.ensures in
+    let first = c.in_ok-expect.ensures in
     let long = expect_starts LeftBrace s.ahead t.ahead first.0 in
-    let u = snap text c.local-variables.new.self in
-    let ys = c.in-ok-local-variables.ensures in
+    let u = snap text c.local_variables.new.self in
+    let ys = c.in_ok-local_variables.ensures in
     let paid₁ : Paid s (emitted (instr.body 0) u) = body_begins s t u first.1 long ys.paid in
-    rw p.1 (record { reads = rw (first.0, ys.reads.parsed, c.in-err-statements.ensures.reads); paid = tt })
+    rw p.1 (record { reads = rw (first.0, ys.reads.parsed, c.in_err-statements.ensures.reads); paid = tt })
 
 pub emit-requires : goal.emit-requires
 emit-requires c =
     let text = c.args.text.now in
     let s = snap text c.args.self.now in
     let t = snap text c.expect.new.self in
-    let first = c.in-ok-expect.ensures in
+    let first = c.in_ok-expect.ensures in
     let long = expect_starts LeftBrace s.ahead t.ahead first.0 in
-    let u = snap text c.local-variables.new.self in
-    let ys = c.in-ok-local-variables.ensures in
+    let u = snap text c.local_variables.new.self in
+    let ys = c.in_ok-local_variables.ensures in
     let paid₁ : Paid s (emitted (instr.body 0) u) = body_begins s t u first.1 long ys.paid in
     let v = snap text c.statements.new.self in
-    let ss = c.in-ok-statements.ensures in
+    let ss = c.in_ok-statements.ensures in
     body_room s t u v c.requires first.1 long ys.paid ss.paid
 
 pub returns : goal.returns
@@ -69,13 +69,13 @@ returns c =
     let text = c.args.text.now in
     let s = snap text c.args.self.now in
     let t = snap text c.expect.new.self in
-    let first = c.in-ok-expect.ensures in
+    let first = c.in_ok-expect.ensures in
     let long = expect_starts LeftBrace s.ahead t.ahead first.0 in
-    let u = snap text c.local-variables.new.self in
-    let ys = c.in-ok-local-variables.ensures in
+    let u = snap text c.local_variables.new.self in
+    let ys = c.in_ok-local_variables.ensures in
     let paid₁ : Paid s (emitted (instr.body 0) u) = body_begins s t u first.1 long ys.paid in
     let v = snap text c.statements.new.self in
-    let ss = c.in-ok-statements.ensures in
+    let ss = c.in_ok-statements.ensures in
     let w = snap text c.emit.new.self in
     let ls = code_locals ys.reads.value [] in
     let bs = block_code ss.reads.value in

@@ -24,41 +24,41 @@ arguments-requires c =
     let first : snap text c.advance.new.self ≡ t = c.advance.ensures ∙ ap advanced c.emit.ensures in
     room_after s _ c.requires.room (subst (Paid s) (sym first) (paid_begin s (instr.call x) (starts_long LeftParen s.ahead c.requires.call)))
 
-pub returns-in-err-arguments : goal.returns-in-err-arguments
-returns-in-err-arguments c =
-    let p = err_from_is_err_and c.from-residual.result c.from-residual.ensures.1 in
+pub returns-in_err-arguments : goal.returns-in_err-arguments
+returns-in_err-arguments c =
+    let p = err_from_is_err_and c.from_residual.result c.from_residual.ensures.1 in
     let text = c.args.text.now in
     let x = name_at text c.args.name.0 in
     let s = snap text c.args.self.now in
     let t = advanced (emitted (instr.call x) s) in
     let first : snap text c.advance.new.self ≡ t = c.advance.ensures ∙ ap advanced c.emit.ensures in
-    let none : maybe_names∞ (onward s.ahead) ≡ None = ap (λ r. maybe_names∞ r.ahead) (sym first) ∙ c.in-err-arguments.ensures.reads in
+    let none : maybe_names∞ (onward s.ahead) ≡ None = ap (λ r. maybe_names∞ r.ahead) (sym first) ∙ c.in_err-arguments.ensures.reads in
     rw p.1 (record { reads = rw (named_statement_rule x s.ahead, c.requires.call, none); paid = tt })
 
-pub finish-statement-requires : goal.finish-statement-requires
-finish-statement-requires c =
+pub finish_statement-requires : goal.finish_statement-requires
+finish_statement-requires c =
     let text = c.args.text.now in
     let x = name_at text c.args.name.0 in
     let s = snap text c.args.self.now in
     let t = advanced (emitted (instr.call x) s) in
     let first : snap text c.advance.new.self ≡ t = c.advance.ensures ∙ ap advanced c.emit.ensures in
     let u = snap text c.arguments.new.self in
-    let told = c.in-ok-arguments.ensures in
+    let told = c.in_ok-arguments.ensures in
     let read = subst (λ r. Read maybe_names∞ (λ xs. code_args xs []) r u) first told.reads in
     begun_room s u (instr.call x) c.requires.room (starts_long LeftParen s.ahead c.requires.call) (subst (λ r. Paid r u) first told.paid)
 
-pub returns-in-err-finish-statement : goal.returns-in-err-finish-statement
-returns-in-err-finish-statement c =
-    let p = err_from_is_err_and c.from-residual-in-err-finish-statement.result c.from-residual-in-err-finish-statement.ensures.1 in
+pub returns-in_err-finish_statement : goal.returns-in_err-finish_statement
+returns-in_err-finish_statement c =
+    let p = err_from_is_err_and c.from_residual-in_err-finish_statement.result c.from_residual-in_err-finish_statement.ensures.1 in
     let text = c.args.text.now in
     let x = name_at text c.args.name.0 in
     let s = snap text c.args.self.now in
     let t = advanced (emitted (instr.call x) s) in
     let first : snap text c.advance.new.self ≡ t = c.advance.ensures ∙ ap advanced c.emit.ensures in
     let u = snap text c.arguments.new.self in
-    let told = c.in-ok-arguments.ensures in
+    let told = c.in_ok-arguments.ensures in
     let read = subst (λ r. Read maybe_names∞ (λ xs. code_args xs []) r u) first told.reads in
-    rw p.1 (record { reads = rw (named_statement_rule x s.ahead, c.requires.call, read.parsed, c.in-err-finish-statement.ensures); paid = tt })
+    rw p.1 (record { reads = rw (named_statement_rule x s.ahead, c.requires.call, read.parsed, c.in_err-finish_statement.ensures); paid = tt })
 
 pub returns : goal.returns
 unfolding code_stmt
@@ -69,10 +69,10 @@ returns c =
     let t = advanced (emitted (instr.call x) s) in
     let first : snap text c.advance.new.self ≡ t = c.advance.ensures ∙ ap advanced c.emit.ensures in
     let u = snap text c.arguments.new.self in
-    let told = c.in-ok-arguments.ensures in
+    let told = c.in_ok-arguments.ensures in
     let read = subst (λ r. Read maybe_names∞ (λ xs. code_args xs []) r u) first told.reads in
-    let v = snap text c.finish-statement.new.self in
-    let last = c.in-ok-finish-statement.ensures in
+    let v = snap text c.finish_statement.new.self in
+    let last = c.in_ok-finish_statement.ensures in
     record {
       reads = record {
         value = call x read.value;

@@ -13,25 +13,25 @@ use Rattle.parse.proofs.Plain.{statement_check, paid_end}
 use Rattle.parse.proofs.Rooms.{paid_then, paid_advance}
 use Rattle.parse.proofs.reader.Reader.check.Goals as goal
 
-pub returns-in-err-formula : goal.returns-in-err-formula
-returns-in-err-formula c =
-    let p = err_from_is_err_and c.from-residual.result c.from-residual.ensures.1 in
+pub returns-in_err-formula : goal.returns-in_err-formula
+returns-in_err-formula c =
+    let p = err_from_is_err_and c.from_residual.result c.from_residual.ensures.1 in
     let text = c.args.text.now in
     let s = snap text c.args.self.now in
     let first = c.advance.ensures in
-    let none : formula∞ (onward s.ahead) ≡ None = ap (λ t. formula∞ t.ahead) (sym first) ∙ c.in-err-formula.ensures.reads in
+    let none : formula∞ (onward s.ahead) ≡ None = ap (λ t. formula∞ t.ahead) (sym first) ∙ c.in_err-formula.ensures.reads in
     rw p.1 (record { reads = statement_check s.ahead c.requires.check ∙ rw none; paid = tt })
 
-pub returns-in-err-finish-statement : goal.returns-in-err-finish-statement
-returns-in-err-finish-statement c =
-    let p = err_from_is_err_and c.from-residual-in-err-finish-statement.result c.from-residual-in-err-finish-statement.ensures.1 in
+pub returns-in_err-finish_statement : goal.returns-in_err-finish_statement
+returns-in_err-finish_statement c =
+    let p = err_from_is_err_and c.from_residual-in_err-finish_statement.result c.from_residual-in_err-finish_statement.ensures.1 in
     let text = c.args.text.now in
     let s = snap text c.args.self.now in
     let first = c.advance.ensures in
     let u = snap text c.formula.new.self in
-    let told = c.in-ok-formula.ensures in
+    let told = c.in_ok-formula.ensures in
     let read = subst (λ t. Read formula∞ (λ b. code_bool b []) t u) first told.reads in
-    rw p.1 (record { reads = statement_check s.ahead c.requires.check ∙ rw (read.parsed, c.in-err-finish-statement.ensures); paid = tt })
+    rw p.1 (record { reads = statement_check s.ahead c.requires.check ∙ rw (read.parsed, c.in_err-finish_statement.ensures); paid = tt })
 
 pub returns : goal.returns
 unfolding code_stmt
@@ -40,10 +40,10 @@ returns c =
     let s = snap text c.args.self.now in
     let first = c.advance.ensures in
     let u = snap text c.formula.new.self in
-    let told = c.in-ok-formula.ensures in
+    let told = c.in_ok-formula.ensures in
     let read = subst (λ t. Read formula∞ (λ b. code_bool b []) t u) first told.reads in
-    let v = snap text c.finish-statement.new.self in
-    let last = c.in-ok-finish-statement.ensures in
+    let v = snap text c.finish_statement.new.self in
+    let last = c.in_ok-finish_statement.ensures in
     let past = subst (Paid s) (sym first) (paid_advance s (starts_long Check s.ahead c.requires.check)) in
     record {
       reads = record {

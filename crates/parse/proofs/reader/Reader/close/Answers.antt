@@ -21,16 +21,16 @@ returns-then-height-base c =
       shorter = omega (arith, ap (λ r. length r.ahead) c.advance.ensures, starts_long RightBrace s.ahead c.requires.brace);
     }
 
-pub returns-in-err-end-block : goal.returns-in-err-end-block
-returns-in-err-end-block c =
-    let p = err_from_is_err_and c.from-residual.result c.from-residual.ensures.1 in
+pub returns-in_err-end_block : goal.returns-in_err-end_block
+returns-in_err-end_block c =
+    let p = err_from_is_err_and c.from_residual.result c.from_residual.ensures.1 in
     let text = c.args.text.now in
     let s = snap text c.args.self.now in
     let t = snap text c.advance.new.self in
     rw p.1 (record {
       reads = λ before b h.
           let high : length before.pending < length t.pending = omega (arith, c.height.ensures, c.if-height-base.false, b) in
-          c.in-err-end-block.ensures.reads before high (subst (BlockWhole before) (sym c.advance.ensures) (brace_read before s h c.requires.brace));
+          c.in_err-end_block.ensures.reads before high (subst (BlockWhole before) (sym c.advance.ensures) (brace_read before s h c.requires.brace));
       paid = tt;
       shorter = tt;
     })
@@ -40,8 +40,8 @@ returns c =
     let text = c.args.text.now in
     let s = snap text c.args.self.now in
     let t = snap text c.advance.new.self in
-    let u = snap text c.end-block.new.self in
-    let told = c.in-ok-end-block.ensures in
+    let u = snap text c.end_block.new.self in
+    let told = c.in_ok-end_block.ensures in
     record {
       reads = λ before b h.
           let high : length before.pending < length t.pending = omega (arith, c.height.ensures, c.if-height-base.false, b) in

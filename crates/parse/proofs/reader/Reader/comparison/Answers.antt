@@ -15,8 +15,8 @@ returns c =
     let d = snap text c.expression-2.new.self in
     let o = c.in-Some.op in
     let found : comparing b.ahead ≡ Some o = sym c.in-Some.ensures in
-    let left = c.in-ok-expression.ensures in
-    let right = c.in-ok-expression-2.ensures in
+    let left = c.in_ok-expression.ensures in
+    let right = c.in_ok-expression-2.ensures in
     let after = c.emit.ensures in
     record {
       reads = subst (Read comparison∞ (λ e. code_bool e []) a) (sym after) (comparison_reads a b d o left.reads found (subst (λ s. Read sum∞ (λ e. code_expr e []) s d) c.advance.ensures right.reads));

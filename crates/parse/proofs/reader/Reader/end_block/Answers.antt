@@ -11,33 +11,33 @@ use Rattle.parse.proofs.InBlock.{then_closed, then_unclosed, else_closed, do_clo
 use Rattle.parse.proofs.Rooms.{paid_then, paid_closed}
 use Rattle.parse.proofs.reader.Reader.end_block.Goals as goal
 
-pub returns-in-default : goal.returns-in-default
-returns-in-default c =
+pub returns-in_default : goal.returns-in_default
+returns-in_default c =
     let s = snap c.args.text.now c.args.self.now in
-    let none = c.in-default.ensures.value in
+    let none = c.in_default.ensures.value in
     record { reads = λ before l h. none_closed before s h l (λ at e. let z : ◌≡◌ {A = ℕ} 0 1 = cc in omega arith) (λ at e. let z : ◌≡◌ {A = ℕ} 0 1 = cc in omega arith) (λ at e. let z : ◌≡◌ {A = ℕ} 0 1 = cc in omega arith); paid = tt; onward = tt }
 
-pub returns-in-default-part : goal.returns-in-default-part
-returns-in-default-part c =
+pub returns-in_default-part : goal.returns-in_default-part
+returns-in_default-part c =
     let s = snap c.args.text.now c.args.self.now in
     let told = c.in-Some.ensures.value in
     let part = c.in-Some.part in
     record {
       reads = λ before l h. none_closed before s h l
-          (λ at e. let same : part ≡ Then at = cc in c.in-default-part.not-Then at same)
-          (λ at e. let same : part ≡ Else at = cc in c.in-default-part.not-Else at same)
-          (λ at e. let same : part ≡ Do at = cc in c.in-default-part.not-Do at same);
+          (λ at e. let same : part ≡ Then at = cc in c.in_default-part.not-Then at same)
+          (λ at e. let same : part ≡ Else at = cc in c.in_default-part.not-Else at same)
+          (λ at e. let same : part ≡ Do at = cc in c.in_default-part.not-Do at same);
       paid = tt;
       onward = tt;
     }
 
-pub returns-in-err-else-head : goal.returns-in-err-else-head
-returns-in-err-else-head c =
-    let p = err_from_is_err_and c.from-residual.result c.from-residual.ensures.1 in
+pub returns-in_err-else_head-in-Then : goal.returns-in_err-else_head-in-Then
+returns-in_err-else_head-in-Then c =
+    let p = err_from_is_err_and c.from_residual.result c.from_residual.ensures.1 in
     let s = snap c.args.text.now c.args.self.now in
     let told = c.in-Some.ensures in
     let last = ap Some (sym c.in-Then.is) ∙ told.value in
-    let none : else_head s.ahead ≡ None = ap (λ r. else_head r.ahead) (sym told.after) ∙ c.in-err-else-head.ensures.reads in
+    let none : else_head s.ahead ≡ None = ap (λ r. else_head r.ahead) (sym told.after) ∙ c.in_err-else_head-in-Then.ensures.reads in
     rw p.1 (record { reads = λ before l h. then_unclosed before s h l c.in-Then.at last none; paid = tt; onward = tt })
 
 pub emit-requires : goal.emit-requires
@@ -56,15 +56,15 @@ emit-requires-in-Do c =
     let sealing : snap text c.seal-in-Do.new.self ≡ sealed kind.Do c.in-Do.at (closed s) = c.seal-in-Do.ensures ∙ ap (sealed kind.Do c.in-Do.at) told.after in
     subst (λ r. length r.code < r.code_room) (sym sealing) (sealed_room s c.in-Some.part kind.Do c.in-Do.at told.value c.requires)
 
-pub returns-in-ok-else-head : goal.returns-in-ok-else-head
-returns-in-ok-else-head c =
+pub returns-in_ok-else_head-in-Then : goal.returns-in_ok-else_head-in-Then
+returns-in_ok-else_head-in-Then c =
     let text = c.args.text.now in
     let s = snap text c.args.self.now in
     let told = c.in-Some.ensures in
     let at = c.in-Then.at in
     let last = ap Some (sym c.in-Then.is) ∙ told.value in
-    let v = snap text c.else-head.new.self in
-    let e = c.in-ok-else-head.ensures in
+    let v = snap text c.else_head.new.self in
+    let e = c.in_ok-else_head-in-Then.ensures in
     let after : v ≡ block_opened kind.Else (advanced (sealed kind.Then at (closed s))) = e.reads.1 ∙ ap (λ r. block_opened kind.Else (advanced (sealed kind.Then at r))) told.after in
     let found : else_head s.ahead ≡ Some (onward (onward s.ahead)) = ap (λ r. else_head r.ahead) (sym told.after) ∙ e.reads.0 ∙ ap (λ r. Some r.ahead) after in
     record {

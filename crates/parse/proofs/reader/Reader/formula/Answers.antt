@@ -9,37 +9,37 @@ use Rattle.parse.proofs.reader.Reader.formula.Goals as goal
 pub turns-init : goal.turns-init
 turns-init c = (begun _, paid_none _, c.height-base.ensures)
 
-pub returns-in-err-next : goal.returns-in-err-next
-returns-in-err-next c =
-    let p = err_from_is_err_and c.from-residual.result c.from-residual.ensures.1 in
+pub returns-in_err-next-in-Unit : goal.returns-in_err-next-in-Unit
+returns-in_err-next-in-Unit c =
+    let p = err_from_is_err_and c.from_residual.result c.from_residual.ensures.1 in
     let text = c.args.text.now in
     let here = subst (InBool (snap text c.args.self.now) (snap text c.turns.self)) c.in-Unit.is c.turns.invariant.0 in
-    rw p.1 (record { reads = c.in-err-next.ensures.reads _ here; paid = tt })
+    rw p.1 (record { reads = c.in_err-next-in-Unit.ensures.reads _ here; paid = tt })
 
-pub returns-in-err-next-2 : goal.returns-in-err-next-2
-returns-in-err-next-2 c =
-    let p = err_from_is_err_and c.from-residual-in-err-next-2.result c.from-residual-in-err-next-2.ensures.1 in
+pub returns-in_err-next-in-Whole : goal.returns-in_err-next-in-Whole
+returns-in_err-next-in-Whole c =
+    let p = err_from_is_err_and c.from_residual-in_err-next-in-Whole.result c.from_residual-in_err-next-in-Whole.ensures.1 in
     let text = c.args.text.now in
     let here = subst (InBool (snap text c.args.self.now) (snap text c.turns.self)) c.in-Whole.is c.turns.invariant.0 in
-    rw p.1 (record { reads = c.in-err-next-2.ensures.reads _ c.turns.invariant.2 here; paid = tt })
+    rw p.1 (record { reads = c.in_err-next-in-Whole.ensures.reads _ c.turns.invariant.2 here; paid = tt })
 
-pub turns-preserved-in-ok-next : goal.turns-preserved-in-ok-next
-turns-preserved-in-ok-next c =
+pub turns-preserved-in_ok-next-in-Unit : goal.turns-preserved-in_ok-next-in-Unit
+turns-preserved-in_ok-next-in-Unit c =
     let text = c.args.text.now in
-    let told = c.in-ok-next.ensures in
+    let told = c.in_ok-next-in-Unit.ensures in
     let here = subst (InBool (snap text c.args.self.now) (snap text c.turns.self)) c.in-Unit.is c.turns.invariant.0 in
     (told.reads _ here, paid_then _ _ _ c.turns.invariant.1 told.used.paid, c.turns.invariant.2)
 
 pub turns-preserved-in-Behind : goal.turns-preserved-in-Behind
 turns-preserved-in-Behind c =
     let text = c.args.text.now in
-    let told = c.behind-unit-next.ensures in
+    let told = c.behind_unit-next.ensures in
     let here = subst (InBool (snap text c.args.self.now) (snap text c.turns.self)) c.in-Behind.is c.turns.invariant.0 in
     (told.reads _ c.turns.invariant.2 here, paid_then _ _ _ c.turns.invariant.1 told.used.paid, c.turns.invariant.2)
 
 pub turns-preserved : goal.turns-preserved
 turns-preserved c =
     let text = c.args.text.now in
-    let told = c.in-ok-next-2.ensures in
+    let told = c.in_ok-next-in-Whole.ensures in
     let here = subst (InBool (snap text c.args.self.now) (snap text c.turns.self)) c.in-Whole.is c.turns.invariant.0 in
     (told.reads _ c.turns.invariant.2 here, paid_then _ _ _ c.turns.invariant.1 told.used.paid, c.turns.invariant.2)

@@ -16,6 +16,6 @@ returns c =
     let s = snap text c.args.self.now in
     let u = snap text c.declarations.new.self in
     let b = sym c.if-not-at.ensures in
-    let told = c.in-ok-declarations.ensures in
+    let told = c.in_ok-declarations.ensures in
     let past = subst (Paid s) (sym c.advance.ensures) (paid_advance s (starts_long Var s.ahead b)) in
     record { reads = some_locals s u b (subst (λ t. Read (declarations∞ Semicolon) (codes (role_code Local)) t u) c.advance.ensures told.reads); paid = paid_then s _ u past told.paid }

@@ -14,21 +14,21 @@ use Rattle.parse.proofs.Heads.{starts_long, onward_short}
 use Rattle.parse.proofs.InExpr.{named_used, old_named, old_unnamed}
 use Rattle.parse.proofs.reader.Reader.old_operand.Goals as goal
 
-pub returns-in-err-place : goal.returns-in-err-place
-returns-in-err-place c =
-    let p = err_from_is_err_and c.from-residual.result c.from-residual.ensures.1 in
+pub returns-in_err-place : goal.returns-in_err-place
+returns-in_err-place c =
+    let p = err_from_is_err_and c.from_residual.result c.from_residual.ensures.1 in
     let text = c.args.text.now in
     let s = snap text c.args.self.now in
-    let none : a_name (onward s.ahead) ≡ None = ap (λ t. a_name t.ahead) (sym c.advance.ensures) ∙ c.in-err-place.ensures in
+    let none : a_name (onward s.ahead) ≡ None = ap (λ t. a_name t.ahead) (sym c.advance.ensures) ∙ c.in_err-place.ensures in
     rw p.1 (record { reads = λ before h. old_unnamed text before s h c.requires.1 none; used = tt })
 
 pub returns : goal.returns
 returns c =
     let text = c.args.text.now in
     let s = snap text c.args.self.now in
-    let p = c.in-ok-place.place in
-    let two : snap text c.name.new.self ≡ advanced (advanced s) = c.in-ok-place.ensures.1 ∙ ap advanced c.advance.ensures in
-    let named : a_name (onward s.ahead) ≡ Some (name_at text p.0, onward (onward s.ahead)) = ap (λ t. a_name t.ahead) (sym c.advance.ensures) ∙ c.in-ok-place.ensures.0 ∙ ap (λ t. Some (name_at text p.0, t.ahead)) two in
+    let p = c.in_ok-place.place in
+    let two : snap text c.name.new.self ≡ advanced (advanced s) = c.in_ok-place.ensures.1 ∙ ap advanced c.advance.ensures in
+    let named : a_name (onward s.ahead) ≡ Some (name_at text p.0, onward (onward s.ahead)) = ap (λ t. a_name t.ahead) (sym c.advance.ensures) ∙ c.in_ok-place.ensures.0 ∙ ap (λ t. Some (name_at text p.0, t.ahead)) two in
     let after = c.named.ensures.after ∙ ap (behind_name (OldIndex p) (instr.old (name_at text p.0))) two in
     let next = c.named.ensures.step ∙ ap name_step two in
     let fewer : length (onward (onward s.ahead)) < length s.ahead = omega (arith, starts_long Old s.ahead c.requires.1, onward_short (onward s.ahead)) in

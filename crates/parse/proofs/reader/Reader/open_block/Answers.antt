@@ -11,14 +11,14 @@ pub begin-requires : goal.begin-requires
 begin-requires c =
     let text = c.args.text.now in
     let s = snap text c.args.self.now in
-    let wrote : snap text c.emit.new.self ≡ emitted (kind_instr c.args.kind 0) (advanced s) = c.emit.ensures ∙ (λ j. emitted (c.node.ensures j) (c.in-ok-expect.ensures.1 j)) in
-    omega (arith, c.requires.pending, expect_starts LeftBrace s.ahead _ c.in-ok-expect.ensures.0, ap (λ r. length r.pending) wrote, ap (λ r. r.pending_room) wrote)
+    let wrote : snap text c.emit.new.self ≡ emitted (kind_instr c.args.kind 0) (advanced s) = c.emit.ensures ∙ (λ j. emitted (c.node.ensures j) (c.in_ok-expect.ensures.1 j)) in
+    omega (arith, c.requires.pending, expect_starts LeftBrace s.ahead _ c.in_ok-expect.ensures.0, ap (λ r. length r.pending) wrote, ap (λ r. r.pending_room) wrote)
 
 pub returns : goal.returns
 returns c =
     let text = c.args.text.now in
     let s = snap text c.args.self.now in
-    let first = c.in-ok-expect.ensures in
+    let first = c.in_ok-expect.ensures in
     let wrote : snap text c.emit.new.self ≡ emitted (kind_instr c.args.kind 0) (advanced s) = c.emit.ensures ∙ (λ j. emitted (c.node.ensures j) (first.1 j)) in
     let at = c.part.ensures ∙ ap (kind_part c.args.kind) (c.written-at.ensures ∙ ap (λ r. length r.code) first.1) in
     let after : snap text c.begin.new.self ≡ block_opened c.args.kind s = c.begin.ensures ∙ (λ j. opened (at j) (wrote j)) in

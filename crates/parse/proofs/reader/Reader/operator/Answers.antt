@@ -41,7 +41,7 @@ returns-in-Some-additive c =
     let found : additive u.ahead ≡ Some o = sym c.in-Some-additive.ensures in
     let after : snap text c.advance-in-Some-additive.new.self ≡ advanced (opened (Operator o p) u) = c.advance-in-Some-additive.ensures ∙ ap advanced c.begin-in-Some-additive.ensures in
     record {
-      reads = λ before b h. subst (AtOperand text before) (sym after) (plus text before u o p (additive_loose u.ahead o found).0 (lone_sum text before s t u base b one.after two.after c.in-default.ensures h) found);
+      reads = λ before b h. subst (AtOperand text before) (sym after) (plus text before u o p (additive_loose u.ahead o found).0 (lone_sum text before s t u base b one.after two.after c.in_default.ensures h) found);
       used = subst (λ x. Used s x Operand) (sym after) (used_after s u (advanced (opened (Operator o p) u)) Operand paid same (operator_used u (Operator o p) (additive_loose u.ahead o found).1));
     }
 
@@ -59,7 +59,7 @@ returns-then-height-base c =
     record {
       reads = λ before b h.
           let low : length u.pending ≤ length before.pending = omega (arith, c.height.ensures, c.if-height-base.true, b) in
-          whole text before u (sum_ends text before u (lone_sum text before s t u base b one.after two.after c.in-default.ensures h) (sym c.in-default-additive.ensures)) low;
+          whole text before u (sum_ends text before u (lone_sum text before s t u base b one.after two.after c.in_default.ensures h) (sym c.in_default-additive.ensures)) low;
       used = done_used s u paid same;
     }
 
@@ -77,6 +77,6 @@ returns c =
     record {
       reads = λ before b h.
           let high : length before.pending < length u.pending = omega (arith, c.height.ensures, c.if-height-base.false, b) in
-          c.leave.ensures.reads before high (sum_ends text before u (lone_sum text before s t u base b one.after two.after c.in-default.ensures h) (sym c.in-default-additive.ensures));
+          c.leave.ensures.reads before high (sum_ends text before u (lone_sum text before s t u base b one.after two.after c.in_default.ensures h) (sym c.in_default-additive.ensures));
       used = IfOk-weaker c.leave.result _ _ (λ next x. used_after s u _ next paid same x) c.leave.ensures.used;
     }

@@ -9,23 +9,23 @@ use Rattle.parse.proofs.Procs.{procedure_parts, procedure_read}
 use Rattle.parse.proofs.Rooms.{paid_then}
 use Rattle.parse.proofs.reader.Reader.procedure.Goals as goal
 
-pub returns-in-err-extent : goal.returns-in-err-extent
-returns-in-err-extent c =
-    let p = err_from_is_err_and c.from-residual.result c.from-residual.ensures.1 in
+pub returns-in_err-extent : goal.returns-in_err-extent
+returns-in_err-extent c =
+    let p = err_from_is_err_and c.from_residual.result c.from_residual.ensures.1 in
     let s = snap c.args.text.now c.args.self.now in
-    rw p.1 (record { reads = procedure_parts s.ahead ∙ rw c.in-err-extent.ensures.reads; paid = tt })
+    rw p.1 (record { reads = procedure_parts s.ahead ∙ rw c.in_err-extent.ensures.reads; paid = tt })
 
-pub returns-in-err-terms : goal.returns-in-err-terms
-returns-in-err-terms c =
-    let p = err_from_is_err_and c.from-residual-in-err-terms.result c.from-residual-in-err-terms.ensures.1 in
+pub returns-in_err-terms : goal.returns-in_err-terms
+returns-in_err-terms c =
+    let p = err_from_is_err_and c.from_residual-in_err-terms.result c.from_residual-in_err-terms.ensures.1 in
     let s = snap c.args.text.now c.args.self.now in
-    rw p.1 (record { reads = procedure_parts s.ahead ∙ rw (c.in-ok-extent.ensures.reads.parsed, c.in-err-terms.ensures.reads); paid = tt })
+    rw p.1 (record { reads = procedure_parts s.ahead ∙ rw (c.in_ok-extent.ensures.reads.parsed, c.in_err-terms.ensures.reads); paid = tt })
 
-pub returns-in-err-body : goal.returns-in-err-body
-returns-in-err-body c =
-    let p = err_from_is_err_and c.from-residual-in-err-body.result c.from-residual-in-err-body.ensures.1 in
+pub returns-in_err-body : goal.returns-in_err-body
+returns-in_err-body c =
+    let p = err_from_is_err_and c.from_residual-in_err-body.result c.from_residual-in_err-body.ensures.1 in
     let s = snap c.args.text.now c.args.self.now in
-    rw p.1 (record { reads = procedure_parts s.ahead ∙ rw (c.in-ok-extent.ensures.reads.parsed, c.in-ok-terms.ensures.reads.parsed, c.in-err-body.ensures.reads); paid = tt })
+    rw p.1 (record { reads = procedure_parts s.ahead ∙ rw (c.in_ok-extent.ensures.reads.parsed, c.in_ok-terms.ensures.reads.parsed, c.in_err-body.ensures.reads); paid = tt })
 
 pub returns : goal.returns
 returns c =
@@ -34,9 +34,9 @@ returns c =
     let t = snap text c.signature.new.self in
     let u = snap text c.terms.new.self in
     let v = snap text c.body.new.self in
-    let a = c.in-ok-extent.ensures in
-    let b = c.in-ok-terms.ensures in
-    let d = c.in-ok-body.ensures in
+    let a = c.in_ok-extent.ensures in
+    let b = c.in_ok-terms.ensures in
+    let d = c.in_ok-body.ensures in
     let after : snap text c.patch.new.self ≡ patched (length s.code + 1) (instr.extent (length v.code - ((length s.code + 1) + 1))) v =
     c.patch.ensures ∙ (λ j. patched (a.extent j) (instr.extent ((c.behind-behind.ensures ∙ ap (λ n. length v.code - (n + 1)) a.extent) j)) v) in
     record {

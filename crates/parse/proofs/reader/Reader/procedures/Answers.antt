@@ -17,17 +17,17 @@ returns-in-End c =
     let cursor = c.procs.self.cursor in
     all_read _ _ c.procs.invariant.0 (ap (ahead_by text cursor.start cursor.end) c.in-End.is)
 
-pub returns-in-err-expect : goal.returns-in-err-expect
-returns-in-err-expect c =
-    let p = err_from_is_err_and c.from-residual.result c.from-residual.ensures.1 in
+pub returns-in_err-expect : goal.returns-in_err-expect
+returns-in_err-expect c =
+    let p = err_from_is_err_and c.from_residual.result c.from_residual.ensures.1 in
     let text = c.args.text.now in
-    rw p.1 (no_procedure _ _ c.procs.invariant.0 (some_ahead text c.procs.self.cursor c.in-default.not-End) c.in-err-expect.ensures)
+    rw p.1 (no_procedure _ _ c.procs.invariant.0 (some_ahead text c.procs.self.cursor c.in_default.not-End) c.in_err-expect.ensures)
 
-pub returns-in-err-procedure : goal.returns-in-err-procedure
-returns-in-err-procedure c =
-    let p = err_from_is_err_and c.from-residual-in-err-procedure.result c.from-residual-in-err-procedure.ensures.1 in
+pub returns-in_err-procedure : goal.returns-in_err-procedure
+returns-in_err-procedure c =
+    let p = err_from_is_err_and c.from_residual-in_err-procedure.result c.from_residual-in_err-procedure.ensures.1 in
     let text = c.args.text.now in
-    rw p.1 (unread_procedure _ _ c.procs.invariant.0 (some_ahead text c.procs.self.cursor c.in-default.not-End) (snap text c.expect.new.self) c.in-ok-expect.ensures.0 c.in-err-procedure.ensures.reads)
+    rw p.1 (unread_procedure _ _ c.procs.invariant.0 (some_ahead text c.procs.self.cursor c.in_default.not-End) (snap text c.expect.new.self) c.in_ok-expect.ensures.0 c.in_err-procedure.ensures.reads)
 
 pub procs-preserved : goal.procs-preserved
 procs-preserved c =
@@ -35,6 +35,6 @@ procs-preserved c =
     let s = snap text c.procs.self in
     let t = snap text c.expect.new.self in
     let u = snap text c.procedure.new.self in
-    let first = c.in-ok-expect.ensures in
-    let told = c.in-ok-procedure.ensures in
-    (next_procedure _ s c.procs.invariant.0 (some_ahead text c.procs.self.cursor c.in-default.not-End) t u first.0 first.1 told.reads, room_after s u c.procs.invariant.1 (paid_then s t u (subst (Paid s) (sym first.1) (paid_advance s (expect_starts Proc s.ahead t.ahead first.0))) told.paid))
+    let first = c.in_ok-expect.ensures in
+    let told = c.in_ok-procedure.ensures in
+    (next_procedure _ s c.procs.invariant.0 (some_ahead text c.procs.self.cursor c.in_default.not-End) t u first.0 first.1 told.reads, room_after s u c.procs.invariant.1 (paid_then s t u (subst (Paid s) (sym first.1) (paid_advance s (expect_starts Proc s.ahead t.ahead first.0))) told.paid))

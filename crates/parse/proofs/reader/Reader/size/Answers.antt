@@ -24,21 +24,21 @@ pub emit-requires-2 : goal.emit-requires-2
 emit-requires-2 c =
     let text = c.args.text.now in
     let s = snap text c.args.self.now in
-    let two : snap text c.number.new.self ≡ advanced (advanced s) = c.in-ok-length.ensures.1 ∙ ap advanced c.advance.ensures in
+    let two : snap text c.number.new.self ≡ advanced (advanced s) = c.in_ok-length.ensures.1 ∙ ap advanced c.advance.ensures in
     omega (arith, length_push s.code scalar, c.requires.code, ap (λ t. length t.code) two, ap (λ t. t.code_room) two)
 
 pub returns : goal.returns
 returns c =
     let text = c.args.text.now in
     let s = snap text c.args.self.now in
-    let n = number_at text c.in-ok-length.length.0 in
-    let two : snap text c.number.new.self ≡ advanced (advanced s) = c.in-ok-length.ensures.1 ∙ ap advanced c.advance.ensures in
+    let n = number_at text c.in_ok-length.length.0 in
+    let two : snap text c.number.new.self ≡ advanced (advanced s) = c.in_ok-length.ensures.1 ∙ ap advanced c.advance.ensures in
     let b : starts LeftBracket s.ahead ≡ true = sym c.if-not-at.ensures in
-    let m : a_number (onward s.ahead) ≡ Some (n, onward (onward s.ahead)) = ap (λ t. a_number t.ahead) (sym c.advance.ensures) ∙ c.in-ok-length.ensures.0 ∙ ap (λ t. Some (n, t.ahead)) two in
-    let z : eqb n 0 ≡ false = ne_eqb n 0 (λ e. c.if-number-at-eq0.false (c.number-at.ensures ∙ e)) in
+    let m : a_number (onward s.ahead) ≡ Some (n, onward (onward s.ahead)) = ap (λ t. a_number t.ahead) (sym c.advance.ensures) ∙ c.in_ok-length.ensures.0 ∙ ap (λ t. Some (n, t.ahead)) two in
+    let z : eqb n 0 ≡ false = ne_eqb n 0 (λ e. c.if-number_at-eq0.false (c.number_at.ensures ∙ e)) in
     let wrote : snap text c.emit-2.new.self ≡ emitted (row n) (advanced (advanced s)) = c.emit-2.ensures ∙ ap (emitted (row n)) two in
-    let after = c.in-ok-expect.ensures.1 ∙ ap advanced wrote in
-    let e : expect RightBracket (onward (onward s.ahead)) ≡ Some (onward (onward (onward s.ahead))) = ap (λ t. expect RightBracket t.ahead) (sym wrote) ∙ c.in-ok-expect.ensures.0 ∙ ap (λ t. Some t.ahead) after in
+    let after = c.in_ok-expect.ensures.1 ∙ ap advanced wrote in
+    let e : expect RightBracket (onward (onward s.ahead)) ≡ Some (onward (onward (onward s.ahead))) = ap (λ t. expect RightBracket t.ahead) (sym wrote) ∙ c.in_ok-expect.ensures.0 ∙ ap (λ t. Some t.ahead) after in
     record {
       reads = λ x. subst (Read (sized x) (λ d. code_size d ∷ []) s) (sym after) (sized_row s x n b m z e);
       paid = subst (Paid (emitted scalar s)) (sym after) (paid_row s (row n) scalar (starts_long LeftBracket s.ahead b) (number_long (onward s.ahead) _ n m) (expect_starts RightBracket (onward (onward s.ahead)) _ e));

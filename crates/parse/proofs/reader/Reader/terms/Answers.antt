@@ -7,35 +7,35 @@ use Rattle.parse.specs.declared.parts.Part.TheVariants.{Pre, Post}
 use Rattle.parse.proofs.Rooms.{paid_then}
 use Rattle.parse.proofs.reader.Reader.terms.Goals as goal
 
-pub returns-in-err-condition : goal.returns-in-err-condition
+pub returns-in_err-condition : goal.returns-in_err-condition
 unfolding terms∞
-returns-in-err-condition c =
-    let p = err_from_is_err_and c.from-residual.result c.from-residual.ensures.1 in
-    rw p.1 (record { reads = rw c.in-err-condition.ensures.reads; paid = tt })
+returns-in_err-condition c =
+    let p = err_from_is_err_and c.from_residual.result c.from_residual.ensures.1 in
+    rw p.1 (record { reads = rw c.in_err-condition.ensures.reads; paid = tt })
 
-pub returns-in-err-condition-2 : goal.returns-in-err-condition-2
+pub returns-in_err-condition-2 : goal.returns-in_err-condition-2
 unfolding terms∞
-returns-in-err-condition-2 c =
-    let p = err_from_is_err_and c.from-residual-in-err-condition-2.result c.from-residual-in-err-condition-2.ensures.1 in
-    let a = c.in-ok-condition.ensures in
-    rw p.1 (record { reads = rw (a.reads.parsed, c.in-err-condition-2.ensures.reads); paid = tt })
+returns-in_err-condition-2 c =
+    let p = err_from_is_err_and c.from_residual-in_err-condition-2.result c.from_residual-in_err-condition-2.ensures.1 in
+    let a = c.in_ok-condition.ensures in
+    rw p.1 (record { reads = rw (a.reads.parsed, c.in_err-condition-2.ensures.reads); paid = tt })
 
-pub returns-in-err-measured : goal.returns-in-err-measured
+pub returns-in_err-measured : goal.returns-in_err-measured
 unfolding terms∞
-returns-in-err-measured c =
-    let p = err_from_is_err_and c.from-residual-in-err-measured.result c.from-residual-in-err-measured.ensures.1 in
-    let a = c.in-ok-condition.ensures in
-    let b = c.in-ok-condition-2.ensures in
-    rw p.1 (record { reads = rw (a.reads.parsed, b.reads.parsed, c.in-err-measured.ensures.reads); paid = tt })
+returns-in_err-measured c =
+    let p = err_from_is_err_and c.from_residual-in_err-measured.result c.from_residual-in_err-measured.ensures.1 in
+    let a = c.in_ok-condition.ensures in
+    let b = c.in_ok-condition-2.ensures in
+    rw p.1 (record { reads = rw (a.reads.parsed, b.reads.parsed, c.in_err-measured.ensures.reads); paid = tt })
 
 pub returns : goal.returns
 unfolding terms∞
 returns c =
     let text = c.args.text.now in
     let s = snap text c.args.self.now in
-    let a = c.in-ok-condition.ensures in
-    let b = c.in-ok-condition-2.ensures in
-    let m = c.in-ok-measured.ensures in
+    let a = c.in_ok-condition.ensures in
+    let b = c.in_ok-condition-2.ensures in
+    let m = c.in_ok-measured.ensures in
     let bs = part_code Post b.reads.value in
     let ms = measure_code m.reads.value in
     record {

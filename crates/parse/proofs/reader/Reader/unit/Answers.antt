@@ -43,19 +43,19 @@ returns-then-at-4 c =
       used = subst (λ t. Used turn.Unit s t turn.Behind) (sym after) (yes_used s word);
     }
 
-pub returns-in-err-comparison : goal.returns-in-err-comparison
-returns-in-err-comparison c =
-    let p = err_from_is_err_and c.from-residual.result c.from-residual.ensures.1 in
+pub returns-in_err-comparison : goal.returns-in_err-comparison
+returns-in_err-comparison c =
+    let p = err_from_is_err_and c.from_residual.result c.from_residual.ensures.1 in
     let text = c.args.text.now in
     let s = snap text c.args.self.now in
-    rw p.1 (record { reads = λ before h. no_unit before s h (sym c.if-at.ensures) (sym c.if-at-4.ensures) (sym c.if-at-2.ensures) (sym c.if-at-3.ensures) c.in-err-comparison.ensures.reads; used = tt })
+    rw p.1 (record { reads = λ before h. no_unit before s h (sym c.if-at.ensures) (sym c.if-at-4.ensures) (sym c.if-at-2.ensures) (sym c.if-at-3.ensures) c.in_err-comparison.ensures.reads; used = tt })
 
 pub returns : goal.returns
 returns c =
     let text = c.args.text.now in
     let s = snap text c.args.self.now in
     let t = snap text c.comparison.new.self in
-    let told = c.in-ok-comparison.ensures in
+    let told = c.in_ok-comparison.ensures in
     record {
       reads = λ before h. comparison_unit before s t h (sym c.if-at.ensures) (sym c.if-at-4.ensures) (sym c.if-at-2.ensures) (sym c.if-at-3.ensures) told.reads told.paid;
       used = comparison_used s t told.reads told.paid;

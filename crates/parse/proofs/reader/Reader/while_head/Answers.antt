@@ -25,15 +25,15 @@ part-requires c =
     let room : Paid s header = paid_head s instr.while (instr.test 0) (starts_long While s.ahead c.requires.first) in
     room_after s _ c.requires.room (subst (λ r. Paid s (emitted (instr.test 0) r)) (sym first) room)
 
-pub returns-in-err-part : goal.returns-in-err-part
-returns-in-err-part c =
-    let p = err_from_is_err_and c.from-residual.result c.from-residual.ensures.1 in
+pub returns-in_err-part : goal.returns-in_err-part
+returns-in_err-part c =
+    let p = err_from_is_err_and c.from_residual.result c.from_residual.ensures.1 in
     let text = c.args.text.now in
     let s = snap text c.args.self.now in
     let t = advanced (emitted instr.while s) in
     let first : snap text c.advance.new.self ≡ t = c.advance.ensures ∙ ap advanced c.emit.ensures in
     let begun = paid_begin s instr.while (starts_long While s.ahead c.requires.first) in
-    let none : formula∞ (onward s.ahead) ≡ None = ap (λ r. formula∞ r.ahead) (sym first) ∙ c.in-err-part.ensures.reads in
+    let none : formula∞ (onward s.ahead) ≡ None = ap (λ r. formula∞ r.ahead) (sym first) ∙ c.in_err-part.ensures.reads in
     rw p.1 (record { reads = rw (while_head_rule (onward s.ahead), none); paid = tt })
 
 pub condition-requires : goal.condition-requires
@@ -46,13 +46,13 @@ condition-requires c =
     let header = emitted (instr.test 0) t in
     let room : Paid s header = paid_head s instr.while (instr.test 0) (starts_long While s.ahead c.requires.first) in
     let t' = snap text c.part.new.self in
-    let b = subst (λ r. Read formula∞ (part_code Test) r t') first c.in-ok-part.ensures.reads in
-    let paid₁ = paid_then s header t' room (subst (λ r. Paid (emitted (instr.test 0) r) t') first c.in-ok-part.ensures.paid) in
+    let b = subst (λ r. Read formula∞ (part_code Test) r t') first c.in_ok-part.ensures.reads in
+    let paid₁ = paid_then s header t' room (subst (λ r. Paid (emitted (instr.test 0) r) t') first c.in_ok-part.ensures.paid) in
     room_after s t' c.requires.room paid₁
 
-pub returns-in-err-condition : goal.returns-in-err-condition
-returns-in-err-condition c =
-    let p = err_from_is_err_and c.from-residual-in-err-condition.result c.from-residual-in-err-condition.ensures.1 in
+pub returns-in_err-condition : goal.returns-in_err-condition
+returns-in_err-condition c =
+    let p = err_from_is_err_and c.from_residual-in_err-condition.result c.from_residual-in_err-condition.ensures.1 in
     let text = c.args.text.now in
     let s = snap text c.args.self.now in
     let t = advanced (emitted instr.while s) in
@@ -61,9 +61,9 @@ returns-in-err-condition c =
     let header = emitted (instr.test 0) t in
     let room : Paid s header = paid_head s instr.while (instr.test 0) (starts_long While s.ahead c.requires.first) in
     let t' = snap text c.part.new.self in
-    let b = subst (λ r. Read formula∞ (part_code Test) r t') first c.in-ok-part.ensures.reads in
-    let paid₁ = paid_then s header t' room (subst (λ r. Paid (emitted (instr.test 0) r) t') first c.in-ok-part.ensures.paid) in
-    rw p.1 (record { reads = rw (while_head_rule (onward s.ahead), b.parsed, c.in-err-condition.ensures.reads); paid = tt })
+    let b = subst (λ r. Read formula∞ (part_code Test) r t') first c.in_ok-part.ensures.reads in
+    let paid₁ = paid_then s header t' room (subst (λ r. Paid (emitted (instr.test 0) r) t') first c.in_ok-part.ensures.paid) in
+    rw p.1 (record { reads = rw (while_head_rule (onward s.ahead), b.parsed, c.in_err-condition.ensures.reads); paid = tt })
 
 pub measured-requires : goal.measured-requires
 measured-requires c =
@@ -75,16 +75,16 @@ measured-requires c =
     let header = emitted (instr.test 0) t in
     let room : Paid s header = paid_head s instr.while (instr.test 0) (starts_long While s.ahead c.requires.first) in
     let t' = snap text c.part.new.self in
-    let b = subst (λ r. Read formula∞ (part_code Test) r t') first c.in-ok-part.ensures.reads in
-    let paid₁ = paid_then s header t' room (subst (λ r. Paid (emitted (instr.test 0) r) t') first c.in-ok-part.ensures.paid) in
+    let b = subst (λ r. Read formula∞ (part_code Test) r t') first c.in_ok-part.ensures.reads in
+    let paid₁ = paid_then s header t' room (subst (λ r. Paid (emitted (instr.test 0) r) t') first c.in_ok-part.ensures.paid) in
     let u = snap text c.condition.new.self in
-    let i = c.in-ok-condition.ensures in
+    let i = c.in_ok-condition.ensures in
     let paid₂ = paid_then s t' u paid₁ i.paid in
     room_after s u c.requires.room paid₂
 
-pub returns-in-err-measured : goal.returns-in-err-measured
-returns-in-err-measured c =
-    let p = err_from_is_err_and c.from-residual-in-err-measured.result c.from-residual-in-err-measured.ensures.1 in
+pub returns-in_err-measured : goal.returns-in_err-measured
+returns-in_err-measured c =
+    let p = err_from_is_err_and c.from_residual-in_err-measured.result c.from_residual-in_err-measured.ensures.1 in
     let text = c.args.text.now in
     let s = snap text c.args.self.now in
     let t = advanced (emitted instr.while s) in
@@ -93,15 +93,15 @@ returns-in-err-measured c =
     let header = emitted (instr.test 0) t in
     let room : Paid s header = paid_head s instr.while (instr.test 0) (starts_long While s.ahead c.requires.first) in
     let t' = snap text c.part.new.self in
-    let b = subst (λ r. Read formula∞ (part_code Test) r t') first c.in-ok-part.ensures.reads in
-    let paid₁ = paid_then s header t' room (subst (λ r. Paid (emitted (instr.test 0) r) t') first c.in-ok-part.ensures.paid) in
+    let b = subst (λ r. Read formula∞ (part_code Test) r t') first c.in_ok-part.ensures.reads in
+    let paid₁ = paid_then s header t' room (subst (λ r. Paid (emitted (instr.test 0) r) t') first c.in_ok-part.ensures.paid) in
     let u = snap text c.condition.new.self in
-    let i = c.in-ok-condition.ensures in
+    let i = c.in_ok-condition.ensures in
     let paid₂ = paid_then s t' u paid₁ i.paid in
-    rw p.1 (record { reads = rw (while_head_rule (onward s.ahead), b.parsed, i.reads.parsed, c.in-err-measured.ensures.reads); paid = tt })
+    rw p.1 (record { reads = rw (while_head_rule (onward s.ahead), b.parsed, i.reads.parsed, c.in_err-measured.ensures.reads); paid = tt })
 
-pub open-block-requires : goal.open-block-requires
-open-block-requires c =
+pub open_block-requires : goal.open_block-requires
+open_block-requires c =
     let text = c.args.text.now in
     let s = snap text c.args.self.now in
     let t = advanced (emitted instr.while s) in
@@ -110,19 +110,19 @@ open-block-requires c =
     let header = emitted (instr.test 0) t in
     let room : Paid s header = paid_head s instr.while (instr.test 0) (starts_long While s.ahead c.requires.first) in
     let t' = snap text c.part.new.self in
-    let b = subst (λ r. Read formula∞ (part_code Test) r t') first c.in-ok-part.ensures.reads in
-    let paid₁ = paid_then s header t' room (subst (λ r. Paid (emitted (instr.test 0) r) t') first c.in-ok-part.ensures.paid) in
+    let b = subst (λ r. Read formula∞ (part_code Test) r t') first c.in_ok-part.ensures.reads in
+    let paid₁ = paid_then s header t' room (subst (λ r. Paid (emitted (instr.test 0) r) t') first c.in_ok-part.ensures.paid) in
     let u = snap text c.condition.new.self in
-    let i = c.in-ok-condition.ensures in
+    let i = c.in_ok-condition.ensures in
     let paid₂ = paid_then s t' u paid₁ i.paid in
     let v = snap text c.measured.new.self in
-    let m = c.in-ok-measured.ensures in
+    let m = c.in_ok-measured.ensures in
     let paid₃ = paid_then s u v paid₂ m.paid in
     room_after s v c.requires.room paid₃
 
-pub returns-in-err-open-block : goal.returns-in-err-open-block
-returns-in-err-open-block c =
-    let p = err_from_is_err_and c.from-residual-in-err-open-block.result c.from-residual-in-err-open-block.ensures.1 in
+pub returns-in_err-open_block : goal.returns-in_err-open_block
+returns-in_err-open_block c =
+    let p = err_from_is_err_and c.from_residual-in_err-open_block.result c.from_residual-in_err-open_block.ensures.1 in
     let text = c.args.text.now in
     let s = snap text c.args.self.now in
     let t = advanced (emitted instr.while s) in
@@ -131,15 +131,15 @@ returns-in-err-open-block c =
     let header = emitted (instr.test 0) t in
     let room : Paid s header = paid_head s instr.while (instr.test 0) (starts_long While s.ahead c.requires.first) in
     let t' = snap text c.part.new.self in
-    let b = subst (λ r. Read formula∞ (part_code Test) r t') first c.in-ok-part.ensures.reads in
-    let paid₁ = paid_then s header t' room (subst (λ r. Paid (emitted (instr.test 0) r) t') first c.in-ok-part.ensures.paid) in
+    let b = subst (λ r. Read formula∞ (part_code Test) r t') first c.in_ok-part.ensures.reads in
+    let paid₁ = paid_then s header t' room (subst (λ r. Paid (emitted (instr.test 0) r) t') first c.in_ok-part.ensures.paid) in
     let u = snap text c.condition.new.self in
-    let i = c.in-ok-condition.ensures in
+    let i = c.in_ok-condition.ensures in
     let paid₂ = paid_then s t' u paid₁ i.paid in
     let v = snap text c.measured.new.self in
-    let m = c.in-ok-measured.ensures in
+    let m = c.in_ok-measured.ensures in
     let paid₃ = paid_then s u v paid₂ m.paid in
-    rw p.1 (record { reads = rw (while_head_rule (onward s.ahead), b.parsed, i.reads.parsed, m.reads.parsed, c.in-err-open-block.ensures.reads); paid = tt })
+    rw p.1 (record { reads = rw (while_head_rule (onward s.ahead), b.parsed, i.reads.parsed, m.reads.parsed, c.in_err-open_block.ensures.reads); paid = tt })
 
 pub returns : goal.returns
 returns c =
@@ -151,14 +151,14 @@ returns c =
     let header = emitted (instr.test 0) t in
     let room : Paid s header = paid_head s instr.while (instr.test 0) (starts_long While s.ahead c.requires.first) in
     let t' = snap text c.part.new.self in
-    let b = subst (λ r. Read formula∞ (part_code Test) r t') first c.in-ok-part.ensures.reads in
-    let paid₁ = paid_then s header t' room (subst (λ r. Paid (emitted (instr.test 0) r) t') first c.in-ok-part.ensures.paid) in
+    let b = subst (λ r. Read formula∞ (part_code Test) r t') first c.in_ok-part.ensures.reads in
+    let paid₁ = paid_then s header t' room (subst (λ r. Paid (emitted (instr.test 0) r) t') first c.in_ok-part.ensures.paid) in
     let u = snap text c.condition.new.self in
-    let i = c.in-ok-condition.ensures in
+    let i = c.in_ok-condition.ensures in
     let paid₂ = paid_then s t' u paid₁ i.paid in
     let v = snap text c.measured.new.self in
-    let m = c.in-ok-measured.ensures in
+    let m = c.in_ok-measured.ensures in
     let paid₃ = paid_then s u v paid₂ m.paid in
-    let w = snap text c.open-block.new.self in
-    let last = c.in-ok-open-block.ensures in
+    let w = snap text c.open_block.new.self in
+    let last = c.in_ok-open_block.ensures in
     record { reads = while_headed s t' u v w b i.reads m.reads last.reads.0 last.reads.1; paid = paid_then s v w paid₃ last.paid }
