@@ -90,7 +90,7 @@ def main():
 
     count = 0
 
-    def turn(text, kept):
+    def turn(text, kept, aliases):
         nonlocal count
 
         def one(m):
@@ -100,6 +100,10 @@ def main():
                 return n
             before = text[m.start() - 1] if m.start() else " "
             if before == "." and n not in fields and re.search(r"(?:^|[^\w'-])(?:[a-z][\w'-]*\.)+$", text[max(0, m.start() - 80):m.start()]):
+                head = re.search(r"([\w'-]+)\.$", text[:m.start()])
+                if head and head.group(1) in aliases:
+                    count += 1
+                    return spelled(n)
                 return n  # a step that the check made
             count += 1
             return spelled(n)
@@ -108,23 +112,27 @@ def main():
     for path in sources(ROOT, (".antt", ".rt", ".edit")):
         old = read(path)
         kept = taken.get(path, set())
+        aliases = set(re.findall(r"^(?:ghost )?use \S+ as (\w+);?$", old, re.M))
         if path.endswith(".rt"):
             # comments and strings stay
             new = "\n".join(
-                l if l.lstrip().startswith("//") else "".join(p if i % 2 else turn(p, kept) for i, p in enumerate(re.split(r'("(?:[^"\\]|\\.)*")', l)))
+                l if l.lstrip().startswith("//") else "".join(p if i % 2 else turn(p, kept, aliases) for i, p in enumerate(re.split(r'("(?:[^"\\]|\\.)*")', l)))
                 for l in old.split("\n"))
         else:
-            new = turn(old, kept)
+            new = turn(old, kept, aliases)
         if new != old:
             with open(path, "w", encoding="utf-8") as f:
                 f.write(new)
-    for path in [os.path.join(ROOT, "README.md")] + [os.path.join(ROOT, "docs", f) for f in sorted(os.listdir(os.path.join(ROOT, "docs")))] if os.path.isdir(os.path.join(ROOT, "docs")) else []:
-        if path.endswith(".md") and not path.endswith("PORT.md"):
-            old = read(path)
-            new = re.sub(r"`[^`\n]*`", lambda m: turn(m.group(0), set()), old)
-            if new != old:
-                with open(path, "w", encoding="utf-8") as f:
-                    f.write(new)
+    docs = os.path.join(ROOT, "docs")
+    pages = [os.path.join(docs, f) for f in sorted(os.listdir(docs))] if os.path.isdir(docs) else []
+    for path in [os.path.join(ROOT, "README.md")] + pages:
+        if not path.endswith(".md") or path.endswith("PORT.md") or not os.path.exists(path):
+            continue
+        old = read(path)
+        new = re.sub(r"`[^`\n]*`", lambda m: turn(m.group(0), set(), set()), old)
+        if new != old:
+            with open(path, "w", encoding="utf-8") as f:
+                f.write(new)
     print("%d names declared, %d places" % (len(own), count))
 
 

@@ -27,42 +27,42 @@ fn number(names: Names<'_>, at: Place) -> Result<u64, Failure>
 }
 
 fn binary(stacks: &mut Stacks, width: u64, op: ArithOp, at: Place) -> Result<(), AllocError>
-    ensures { OnOk result (width ≤ 64 → stacked stacks.new ≡ ops.push-number (ops.computed width op (ops.top (ops.under (stacked stacks.old).numbers)) (ops.top (stacked stacks.old).numbers)) (ops.pop-number (ops.pop-number (stacked stacks.old)))) }
+    ensures { OnOk result (width ≤ 64 → stacked stacks.new ≡ ops.push_number (ops.computed width op (ops.top (ops.under (stacked stacks.old).numbers)) (ops.top (stacked stacks.old).numbers)) (ops.pop_number (ops.pop_number (stacked stacks.old)))) }
 {
     let (x, y) = stacks.pop_numbers(at);
     stacks.push_number(operations::compute(width, op, x, y, at))
 }
 
 fn compare(stacks: &mut Stacks, comparison: Comparison, at: Place) -> Result<(), AllocError>
-    ensures { OnOk result (stacked stacks.new ≡ ops.push-truth (ops.compared comparison (ops.top (ops.under (stacked stacks.old).numbers)) (ops.top (stacked stacks.old).numbers)) (ops.pop-number (ops.pop-number (stacked stacks.old)))) }
+    ensures { OnOk result (stacked stacks.new ≡ ops.push_truth (ops.compared comparison (ops.top (ops.under (stacked stacks.old).numbers)) (ops.top (stacked stacks.old).numbers)) (ops.pop_number (ops.pop_number (stacked stacks.old)))) }
 {
     let (x, y) = stacks.pop_numbers(at);
     stacks.push_truth(operations::compare(comparison, x, y))
 }
 
 fn and(stacks: &mut Stacks, at: Place) -> Result<(), AllocError>
-    ensures { OnOk result (stacked stacks.new ≡ ops.push-truth (ops.both_true (ops.top (ops.under (stacked stacks.old).truths)) (ops.top (stacked stacks.old).truths)) (ops.pop-truth (ops.pop-truth (stacked stacks.old)))) }
+    ensures { OnOk result (stacked stacks.new ≡ ops.push_truth (ops.both_true (ops.top (ops.under (stacked stacks.old).truths)) (ops.top (stacked stacks.old).truths)) (ops.pop_truth (ops.pop_truth (stacked stacks.old)))) }
 {
     let (x, y) = stacks.pop_truths(at);
     stacks.push_truth(operations::and(x, y))
 }
 
 fn or(stacks: &mut Stacks, at: Place) -> Result<(), AllocError>
-    ensures { OnOk result (stacked stacks.new ≡ ops.push-truth (ops.either_true (ops.top (ops.under (stacked stacks.old).truths)) (ops.top (stacked stacks.old).truths)) (ops.pop-truth (ops.pop-truth (stacked stacks.old)))) }
+    ensures { OnOk result (stacked stacks.new ≡ ops.push_truth (ops.either_true (ops.top (ops.under (stacked stacks.old).truths)) (ops.top (stacked stacks.old).truths)) (ops.pop_truth (ops.pop_truth (stacked stacks.old)))) }
 {
     let (x, y) = stacks.pop_truths(at);
     stacks.push_truth(operations::or(x, y))
 }
 
 fn implies(stacks: &mut Stacks, at: Place) -> Result<(), AllocError>
-    ensures { OnOk result (stacked stacks.new ≡ ops.push-truth (ops.implied (ops.top (ops.under (stacked stacks.old).truths)) (ops.top (stacked stacks.old).truths)) (ops.pop-truth (ops.pop-truth (stacked stacks.old)))) }
+    ensures { OnOk result (stacked stacks.new ≡ ops.push_truth (ops.implied (ops.top (ops.under (stacked stacks.old).truths)) (ops.top (stacked stacks.old).truths)) (ops.pop_truth (ops.pop_truth (stacked stacks.old)))) }
 {
     let (x, y) = stacks.pop_truths(at);
     stacks.push_truth(operations::implies(x, y))
 }
 
 fn not(stacks: &mut Stacks, at: Place) -> Result<(), AllocError>
-    ensures { OnOk result (stacked stacks.new ≡ ops.push-truth (ops.negated (ops.top (stacked stacks.old).truths)) (ops.pop-truth (stacked stacks.old))) }
+    ensures { OnOk result (stacked stacks.new ≡ ops.push_truth (ops.negated (ops.top (stacked stacks.old).truths)) (ops.pop_truth (stacked stacks.old))) }
 {
     let x = stacks.pop_truth(at);
     stacks.push_truth(operations::not(x))
@@ -75,7 +75,7 @@ fn index(
     name: Place,
 ) -> Result<(), AllocError>
     requires { Sized names }
-    ensures { OnOk result (stacked stacks.new ≡ ops.push-number (ops.element-at (inside names.entry counters) (word names.entry.program.now name) (ops.top (stacked stacks.old).numbers)) (ops.pop-number (stacked stacks.old))) }
+    ensures { OnOk result (stacked stacks.new ≡ ops.push_number (ops.element_at (inside names.entry counters) (word names.entry.program.now name) (ops.top (stacked stacks.old).numbers)) (ops.pop_number (stacked stacks.old))) }
 {
     let value = match stacks.pop_number(name) {
         Ok(i) => values::element(names, counters, name, i),
@@ -86,7 +86,7 @@ fn index(
 
 fn old_index(stacks: &mut Stacks, names: Names<'_>, name: Place) -> Result<(), AllocError>
     requires { Sized names }
-    ensures { OnOk result (stacked stacks.new ≡ ops.push-number (ops.element-at (state_old names.entry) (word names.entry.program.now name) (ops.top (stacked stacks.old).numbers)) (ops.pop-number (stacked stacks.old))) }
+    ensures { OnOk result (stacked stacks.new ≡ ops.push_number (ops.element_at (state_old names.entry) (word names.entry.program.now name) (ops.top (stacked stacks.old).numbers)) (ops.pop_number (stacked stacks.old))) }
 {
     let value = match stacks.pop_number(name) {
         Ok(i) => values::old_element(names, name, i),

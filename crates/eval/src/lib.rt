@@ -26,7 +26,6 @@ use crate::names::Names;
 use crate::stacks::Stacks;
 use lang::code::{Node, Place};
 use std::alloc::AllocError;
-use walk;
 
 fn is_true(truth: Result<bool, Failure>) -> bool
     ensures { result ≡ unwrap_or (result_ok truth) false }
@@ -38,7 +37,7 @@ fn is_true(truth: Result<bool, Failure>) -> bool
 }
 
 // What an `all` says whose body stands at an index: up to the first round that is not true.
-#[cycle(rounds_step_walk)]
+#[cycle(rounds_step_perform)]
 fn rounds(
     stacks: &mut Stacks,
     names: Names<'_>,
@@ -57,7 +56,7 @@ fn rounds(
                 reason: Reason::Undefined,
             }));
         };
-        walk(stacks, names, inner, body)?;
+        perform(stacks, names, inner, body)?;
         let truth = stacks.pop_truth(name);
         if !is_true(truth) {
             return Ok(truth);
@@ -67,7 +66,7 @@ fn rounds(
 }
 
 // The operation that begins with a node, in front of an index.
-#[cycle(rounds_step_walk)]
+#[cycle(rounds_step_perform)]
 fn step(
     stacks: &mut Stacks,
     names: Names<'_>,
@@ -90,8 +89,8 @@ fn step(
 }
 
 // The operations from an index on, up to the first node that begins none.
-#[cycle(rounds_step_walk)]
-fn walk(
+#[cycle(rounds_step_perform)]
+fn perform(
     stacks: &mut Stacks,
     names: Names<'_>,
     counters: Counters,
@@ -112,5 +111,5 @@ pub fn evaluate(stacks: &mut Stacks, names: Names<'_>, from: usize) -> Result<us
     requires { Sized names }
     ensures { IfOk result (λ i. Evaluated names.entry from i (stacked stacks.old) (stacked stacks.new)) }
 {
-    walk(stacks, names, Counters::Zero, from)
+    perform(stacks, names, Counters::Zero, from)
 }

@@ -16,7 +16,7 @@ use Rattle.vc.specs.Worked.{standstill, any_sum, any_number, each_other, FirstBr
 
 -- all that texts are read with
 reading : ℕ
-unfolding words_from token tokens grammar.sum grammar.sum_rest grammar.product grammar.product_rest grammar.atom grammar.formula grammar.disjunction grammar.disjunction_rest grammar.conjunction grammar.conjunction_rest grammar.unit grammar.names grammar.declaration grammar.declarations grammar.condition grammar.measured grammar.named-statement grammar.if-head grammar.else-head grammar.while-head grammar.block grammar.statement grammar.procedure grammar.procedures grammar.program grammar.reads find_decl find_proc sound_expr sound_bool same_sizes sound_stmt sound_block sound_proc sound
+unfolding words_from token tokens grammar.sum grammar.sum_rest grammar.product grammar.product_rest grammar.atom grammar.formula grammar.disjunction grammar.disjunction_rest grammar.conjunction grammar.conjunction_rest grammar.unit grammar.names grammar.declaration grammar.declarations grammar.condition grammar.measured grammar.named_statement grammar.if_head grammar.else_head grammar.while_head grammar.block grammar.statement grammar.procedure grammar.procedures grammar.program grammar.reads find_decl find_proc sound_expr sound_bool same_sizes sound_stmt sound_block sound_proc sound
 reading = 0
 
 -- and conditions computed

@@ -105,5 +105,5 @@ pub record ReadAs : Type 0 where
   pub most_read : program_of worked.most ≡ Some most
   pub exchange_read : program_of worked.exchange ≡ Some exchange
   pub descent_read : program_of worked.descent ≡ Some descent
-  pub any_number_read : program_of worked.any-number ≡ Some any_number
-  pub each_other_read : program_of worked.each-other ≡ Some each_other
+  pub any_number_read : program_of worked.any_number ≡ Some any_number
+  pub each_other_read : program_of worked.each_other ≡ Some each_other

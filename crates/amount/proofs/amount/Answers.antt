@@ -13,10 +13,10 @@ loop-f-preserved c = (
       let left = c.loop-f.invariant.1 p holds sound in
       let at = c.in-Some.ensures.finds left.procs left.code in
       let first = first_sound p c.loop-f.total (rest c.args.program.now c.loop-f.i) left at.this at.others at.split in
-      weighs_more p c.loop-f.total (rest c.args.program.now c.loop-f.i) left at.this at.others at.split c.procedure-amount.result _ _ (c.procedure-amount.ensures p holds sound at.this _ at.here first) c.saturating-add-total.ensures at.behind,
+      weighs_more p c.loop-f.total (rest c.args.program.now c.loop-f.i) left at.this at.others at.split c.procedure_amount.result _ _ (c.procedure_amount.ensures p holds sound at.this _ at.here first) c.saturating_add-total.ensures at.behind,
 )
 
 pub returns : goal.returns
 returns c p holds sound =
     let left = c.loop-f.invariant.1 p holds sound in
-    weighs_none p c.loop-f.total (rest c.args.program.now c.loop-f.i) left (c.in-default.ensures.finds left.procs left.code) c.loop-f.invariant.0
+    weighs_none p c.loop-f.total (rest c.args.program.now c.loop-f.i) left (c.in_default.ensures.finds left.procs left.code) c.loop-f.invariant.0

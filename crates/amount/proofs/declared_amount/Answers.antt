@@ -6,4 +6,4 @@ pub loop-d-preserved : goal.loop-d-preserved
 loop-d-preserved c = (omega arith, omega (arith, sizes_more c.in-Some.ensures.here, c.loop-d.invariant.1))
 
 pub returns : goal.returns
-returns c = omega (arith, sizes_none c.in-default.ensures, c.loop-d.invariant.0, c.loop-d.invariant.1)
+returns c = omega (arith, sizes_none c.in_default.ensures, c.loop-d.invariant.0, c.loop-d.invariant.1)

@@ -12,4 +12,4 @@ loop-node-preserved c =
     (omega arith, weighed_more no_calls 0 c.args.measure c.loop-node.s this.here this.goes_on c.loop-node.total c.add-total.result _ c.turn-s.result c.turn-s.ensures (omega (arith, none, c.add-total.ensures)) c.loop-node.invariant.1)
 
 pub returns : goal.returns
-returns c = omega (arith, weighed_end no_calls 0 c.args.measure c.loop-node.s (rest c.args.program.now c.loop-node.i) c.in-default.ensures, c.loop-node.invariant.0, c.loop-node.invariant.1)
+returns c = omega (arith, weighed_end no_calls 0 c.args.measure c.loop-node.s (rest c.args.program.now c.loop-node.i) c.in_default.ensures, c.loop-node.invariant.0, c.loop-node.invariant.1)

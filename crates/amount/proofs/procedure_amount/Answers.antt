@@ -4,4 +4,4 @@ use Rattle.amount.proofs.procedure_amount.Goals as goal
 
 pub returns : goal.returns
 returns c p holds sound q k here sound-q =
-    procedure_is c.args.program.now p q k c.outline-at-o.result (c.outline-at-o.ensures q k here) sound-q c.names-amount-names.result c.head-amount-head.result c.body-amount.result c.saturating-add-2.result c.names-amount-names.ensures c.head-amount-head.ensures (c.body-amount.ensures p holds sound) (omega arith)
+    procedure_is c.args.program.now p q k c.outline_at-o.result (c.outline_at-o.ensures q k here) sound-q c.names_amount-names.result c.head_amount-head.result c.body_amount.result c.saturating_add-2.result c.names_amount-names.ensures c.head_amount-head.ensures (c.body_amount.ensures p holds sound) (omega arith)

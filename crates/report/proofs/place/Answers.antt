@@ -6,4 +6,4 @@ use Rattle.report.proofs.place.Goals as goal
 pub returns : goal.returns
 returns c =
     let P : Position → Type 0 = λ p. IfOk c.label.result (λ s. string_bytes s ≡ place_text c.args.file.now p) in
-    subst P c.position-of.ensures c.label.ensures
+    subst P c.position_of.ensures c.label.ensures

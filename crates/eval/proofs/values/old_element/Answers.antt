@@ -7,4 +7,4 @@ pub row-requires : goal.row-requires
 row-requires c = c.requires.initial ∙ ap counts (params_only c.args.names.program.now c.args.names.params _ c.len-none.ensures)
 
 pub returns : goal.returns
-returns c = c.element-of.ensures ∙ rw (c.row.ensures, ← (params_only c.args.names.program.now c.args.names.params _ c.len-none.ensures)) refl
+returns c = c.element_of.ensures ∙ rw (c.row.ensures, ← (params_only c.args.names.program.now c.args.names.params _ c.len-none.ensures)) refl

@@ -7,17 +7,17 @@ use Rattle.walk.proofs.Outlines.{params_are}
 use Rattle.sound.proofs.Passing.{sizes_differ, sizes_agree}
 use Rattle.sound.proofs.calls.check_call.Goals as goal
 
-pub returns-in-err-same-sizes : goal.returns-in-err-same-sizes
-returns-in-err-same-sizes c p holds =
+pub returns-in_err-same_sizes : goal.returns-in_err-same_sizes
+returns-in_err-same_sizes c p holds =
     let held = c.args.program.now in
     let f = c.in-Some.ensures p.procs holds.code in
     let params = params_are f.this f.behind (code_of held) c.in-Some.f c.skip.result f.here c.skip.ensures in
-    handed_on c.from-residual.result c.from-residual.ensures.0
-    ∙ sizes_differ p (env held c.args.scope) (word held c.args.name) (passed (rest held c.args.from)) f.found params c.in-err-same-sizes.ensures
+    handed_on c.from_residual.result c.from_residual.ensures.0
+    ∙ sizes_differ p (env held c.args.scope) (word held c.args.name) (passed (rest held c.args.from)) f.found params c.in_err-same_sizes.ensures
 
 pub returns : goal.returns
 returns c p holds =
     let held = c.args.program.now in
     let f = c.in-Some.ensures p.procs holds.code in
     let params = params_are f.this f.behind (code_of held) c.in-Some.f c.skip.result f.here c.skip.ensures in
-    sizes_agree p (env held c.args.scope) (word held c.args.name) (passed (rest held c.args.from)) f.found params c.in-ok-same-sizes.ensures c.distinct-arguments.ensures
+    sizes_agree p (env held c.args.scope) (word held c.args.name) (passed (rest held c.args.from)) f.found params c.in_ok-same_sizes.ensures c.distinct_arguments.ensures

@@ -9,4 +9,4 @@ pub loop-d-preserved : goal.loop-d-preserved
 loop-d-preserved c = apart_so_far _ c.in-Some.ensures.here c.if-declares.ensures ∙ c.loop-d.invariant
 
 pub returns : goal.returns
-returns c = apart_none _ c.in-default.ensures ∙ c.loop-d.invariant
+returns c = apart_none _ c.in_default.ensures ∙ c.loop-d.invariant

@@ -8,10 +8,10 @@ pub returns-in-No : goal.returns-in-No
 returns-in-No c = rw c.in-No.is (size_none _ refl)
 
 pub returns-in-Once : goal.returns-in-Once
-returns-in-Once c = rw (c.in-Once.is, c.same-name.ensures) (in_once c.args.program.now _ c.in-Once.a)
+returns-in-Once c = rw (c.in-Once.is, c.same_name.ensures) (in_once c.args.program.now _ c.in-Once.a)
 
-pub returns-then-same-name : goal.returns-then-same-name
-returns-then-same-name c = rw (c.in-Twice.is, ← (in_twice c.args.program.now (word c.args.program.now c.args.name) c.in-Twice.a c.in-Twice.b), ← c.if-same-name.ensures, c.if-same-name.true)
+pub returns-then-same_name : goal.returns-then-same_name
+returns-then-same_name c = rw (c.in-Twice.is, ← (in_twice c.args.program.now (word c.args.program.now c.args.name) c.in-Twice.a c.in-Twice.b), ← c.if-same_name.ensures, c.if-same_name.true)
 
-pub returns-else-same-name : goal.returns-else-same-name
-returns-else-same-name c = rw (c.in-Twice.is, ← (in_twice c.args.program.now (word c.args.program.now c.args.name) c.in-Twice.a c.in-Twice.b), ← c.if-same-name.ensures, c.same-name-else-same-name.ensures)
+pub returns-else-same_name : goal.returns-else-same_name
+returns-else-same_name c = rw (c.in-Twice.is, ← (in_twice c.args.program.now (word c.args.program.now c.args.name) c.in-Twice.a c.in-Twice.b), ← c.if-same_name.ensures, c.same_name-else-same_name.ensures)

@@ -5,4 +5,4 @@ use Rattle.eval.proofs.stacks.Stacks.push_number.Goals as goal
 
 pub returns : goal.returns
 unfolding stacks
-returns c = rw (c.in-ok-push.ensures.items, on_top (vec_items c.args.self.now.numbers) c.args.n)
+returns c = rw (c.in_ok-push.ensures.items, on_top (vec_items c.args.self.now.numbers) c.args.n)

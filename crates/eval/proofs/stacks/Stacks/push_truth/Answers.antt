@@ -5,4 +5,4 @@ use Rattle.eval.proofs.stacks.Stacks.push_truth.Goals as goal
 
 pub returns : goal.returns
 unfolding stacks
-returns c = rw (c.in-ok-push.ensures.items, on_top (vec_items c.args.self.now.truths) c.args.t)
+returns c = rw (c.in_ok-push.ensures.items, on_top (vec_items c.args.self.now.truths) c.args.t)
