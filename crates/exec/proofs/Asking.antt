@@ -1,5 +1,5 @@
 -- What a procedure asks for.
-use Rattle.std.proofs.Common.{◌≡◌, ℕ, ◌+◌, min, Bool, true, false, List, [], ◌∷◌, ◌++◌, length, Some, None, Option, unwrap_or, sym, refl, ap, ◌∙◌, append-nil}
+use Rattle.std.proofs.Common.{◌≡◌, ℕ, ◌+◌, min, Bool, true, false, List, [], ◌∷◌, ◌++◌, length, Some, None, Option, unwrap_or, sym, refl, subst, ap, ◌∙◌, append-nil}
 use Rattle.lang.specs.Code.{code_bool, code_expr, code_locals, code_block, code_proc}
 use Rattle.lang.specs.Holding.{Holds, code_of}
 use Rattle.lang.specs.Instr as instr
@@ -17,10 +17,18 @@ use Rattle.eval.specs.States.{state_of}
 use Rattle.exec.proofs.Apart.{proc_parts}
 use Rattle.exec.proofs.Stepping.{told_in, untold_in}
 use Rattle.exec.specs.Activating.{now_state, old_state}
-use Rattle.exec.specs.Deeds.{Tested, Untold}
+use Rattle.exec.specs.Deeds.{Tested, Untested, Untold}
 use Rattle.exec.specs.Outcomes.{Checked, Asked}
 use Rattle.exec.specs.Starting.{Started}
 use Rattle.exec.specs.declared.machine.Machine.{Machine}
+use Rattle.exec.specs.declared.stop.Stop.{Stop}
+use Rattle.exec.specs.declared.stop.Stop.TheVariants.{Memory, Failed, Late}
+
+-- not stopped for want of memory
+abbrev pub HadMemory : Stop → Type 0
+HadMemory Memory = ⊥
+HadMemory (Failed f) = Unit {0}
+HadMemory Late = Unit {0}
 
 module _ (held : Program) (i : ℕ) (ns : List ℕ) (o head : Outline) (m : Machine) (from : ℕ) (checked : Checked held i ns o) (ready : Started held head ns m) (same : head.params ≡ o.params) (no-locals : head.locals ≡ length (code_of held)) (is-from : from ≡ min (o.head + 1) (length (code_of held))) where
   module _ (p : syntax.Program) (hold : Holds held p) (is_sound : sound p ≡ true) (q : Proc) (k : List Instr) (good : sound_proc p q ≡ true) (laid : Laid held o q k) where
@@ -54,3 +62,9 @@ module _ (held : Program) (i : ℕ) (ns : List ℕ) (o head : Outline) (m : Mach
             let laid = checked.laid q k here in
             asked_by p hold is_sound q k good laid None (untold_in held p hold is_sound m.running q.params q.params from q.pre _ _ untold (asked_code p hold is_sound q k good laid) refl (proc_parts p q good).pre);
       }
+
+  -- a condition that stops for another reason than want of memory
+  pub asked_stopped : (s t : Stop) → s ≡ t → HadMemory t → Untested held m.running from s → Asked held i ns false
+  asked_stopped Memory t e had u = absurd (subst HadMemory (sym e) had)
+  asked_stopped (Failed f) t e had u = asked_untold u
+  asked_stopped Late t e had u = absurd u

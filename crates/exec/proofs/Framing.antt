@@ -1,7 +1,6 @@
 -- Frames on a stack, and their weight.
-use Rattle.std.proofs.Common.{◌≡◌, ℕ, ◌≤◌, ltb, List, [], ◌∷◌, ◌++◌, reverse, length, is_some, Some, None, vec_items, Option, Vec, sym, refl, ap, ◌∙◌, arith, MatchOption}
+use Rattle.std.proofs.Common.{◌≡◌, ℕ, ◌+◌, ◌≤◌, List, [], ◌∷◌, ◌++◌, reverse, length, Some, None, vec_items, vec_len, Option, Vec, sym, refl, ap, ◌∙◌, arith, MatchOption}
 use Rattle.std.proofs.lemmas.List.{reverse-append}
-use Rattle.std.proofs.lemmas.Bool.{ltb-false}
 use Rattle.std.specs.Option.{option_to_list}
 use Rattle.std.specs.declared.alloc.Global.{Global}
 use Rattle.exec.specs.Framing.{stack, bottom}
@@ -24,10 +23,10 @@ bottom_of a b (Rest at u ∷ fs) e f = bottom_of a b fs e f
 bottom_of a b (Again at u ∷ fs) e f = bottom_of a b fs e f
 bottom_of a b (Return c xs at u ∷ fs) e f = refl
 
-pub popped_cases : (v w : Vec Frame Global) (o : Option Frame) → vec_items v ≡ vec_items w ++ option_to_list o → is_some o ≡ ltb 0 (length (vec_items v)) → MatchOption o (stack v ≡ []) (λ f. stack v ≡ f ∷ stack w)
+pub popped_cases : (v w : Vec Frame Global) (o : Option Frame) → vec_items v ≡ vec_items w ++ option_to_list o → MatchOption o ((vec_len v ≡ 0) × (vec_len w ≡ 0)) (λ _. vec_len w + 1 ≡ vec_len v) → length (vec_items v) ≡ vec_len v → MatchOption o (stack v ≡ []) (λ f. stack v ≡ f ∷ stack w)
 unfolding stack
-popped_cases v w None e t = ap reverse (empty_list (vec_items v) (ltb-false 0 (length (vec_items v)) (sym t)))
-popped_cases v w (Some f) e t = ap reverse e ∙ reverse-append (vec_items w) (f ∷ [])
+popped_cases v w None e t n = ap reverse (empty_list (vec_items v) (omega (arith, t.0, n)))
+popped_cases v w (Some f) e t n = ap reverse e ∙ reverse-append (vec_items w) (f ∷ [])
 
 -- the procedure that began first
 module _ (a b : Activation) {fs gs : List Frame} where

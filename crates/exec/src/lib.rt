@@ -140,6 +140,7 @@ pub fn holds_before(
     match working::truth(&mut stacks, &*program, &machine.running, from) {
         Ok(test) => Ok(test.value),
         Err(Stop::Memory) => Err(Refusal::Memory),
-        Err(_) => Ok(false),
+        Err(Stop::Failed(_)) => Ok(false),
+        Err(Stop::Late) => Ok(false),
     }
 }

@@ -9,7 +9,7 @@ loop-place-init c = (ap length c.new-values.ensures.items, λ h. c.new-values.en
 pub loop-place-preserved : goal.loop-place-preserved
 loop-place-preserved c =
     let cs = drop c.args.taken c.args.choices.now in
-    let more = c.in-ok-push.ensures.items in (
+    let more = c.in_ok-push.ensures.items in (
       ap length more ∙ length-append (vec_items c.loop-place.values) _ ∙ ap (λ n. n + 1) c.loop-place.invariant.0,
       λ h.
           let so_far = c.loop-place.invariant.1 h in

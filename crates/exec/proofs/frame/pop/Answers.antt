@@ -1,6 +1,6 @@
-use Rattle.std.proofs.Common.{ltb, ap, ◌∙◌}
+use Rattle.std.proofs.Common.{sym}
 use Rattle.exec.proofs.Framing.{popped_cases}
 use Rattle.exec.proofs.frame.pop.Goals as goal
 
 pub returns : goal.returns
-returns c = popped_cases c.args.frames.now c.pop.new.self c.pop.result c.pop.ensures.items (c.pop.ensures.test ∙ ap (ltb 0) c.args.frames.now.ok.0)
+returns c = popped_cases c.args.frames.now c.pop.new.self c.pop.result c.pop.ensures.items c.pop.ensures.cases (sym c.args.frames.now.ok.0)

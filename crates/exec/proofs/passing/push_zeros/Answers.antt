@@ -6,4 +6,4 @@ pub loop-preserved : goal.loop-preserved
 loop-preserved c =
     let n : ℕ = 0 in
     let before = vec_items c.args.numbers.now in
-    c.in-ok-push.ensures.items ∙ ap (λ xs. xs ++ n ∷ []) c.loop.invariant ∙ append_assoc before (replicate c.loop.counter n) (n ∷ []) ∙ ap (λ xs. before ++ xs) (replicate_more c.loop.counter n)
+    c.in_ok-push.ensures.items ∙ ap (λ xs. xs ++ n ∷ []) c.loop.invariant ∙ append_assoc before (replicate c.loop.counter n) (n ∷ []) ∙ ap (λ xs. before ++ xs) (replicate_more c.loop.counter n)

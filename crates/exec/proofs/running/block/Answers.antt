@@ -16,10 +16,10 @@ returns-then-ends c =
       fit = c.requires;
       same_bottom = refl;
       less = done_less c.args.fuel (stack m.frames);
-      comes = λ p hold is_sound v. ended held c.args.choices.now p (sym c.next-at-next.ensures ∙ end_shown held c.next-at-next.result c.if-ends.ensures) pos;
+      comes = λ p hold is_sound v. ended held c.args.choices.now p (sym c.next_at-next.ensures ∙ end_shown held c.next_at-next.result c.if-ends.ensures) pos;
     }
 
 pub returns-then-fuel-eq1 : goal.returns-then-fuel-eq1
 returns-then-fuel-eq1 c =
     let held = c.args.program.now in
-    record { comes = λ p hold is_sound v from. late_stmt held c.args.choices.now p (λ d. no_end_shown held c.next-at-next.result c.if-ends.ensures (c.next-at-next.ensures ∙ d)) c.if-fuel-eq1.true from }
+    record { comes = λ p hold is_sound v from. late_stmt held c.args.choices.now p (λ d. no_end_shown held c.next_at-next.result c.if-ends.ensures (c.next_at-next.ensures ∙ d)) c.if-fuel-eq1.true from }

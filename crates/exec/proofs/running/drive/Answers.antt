@@ -10,11 +10,11 @@ loop-stacks-init c = driven_none c.args.program.now c.args.choices.now c.args.ma
 pub step-requires : goal.step-requires
 step-requires c = c.loop-stacks.invariant.fit
 
-pub returns-in-err-next : goal.returns-in-err-next
-returns-in-err-next c = handed_on c.from-residual.result _ _ c.from-residual.ensures.1 (λ y e. rw e (driven_halted _ _ _ _ _ _ c.loop-stacks.invariant _ c.in-err-next.ensures))
+pub returns-in_err-next : goal.returns-in_err-next
+returns-in_err-next c = handed_on c.from_residual.result _ _ c.from_residual.ensures.1 (λ y e. rw e (driven_halted _ _ _ _ _ _ c.loop-stacks.invariant _ c.in_err-next.ensures))
 
 pub loop-stacks-preserved : goal.loop-stacks-preserved
-loop-stacks-preserved c = driven_more _ _ _ _ _ _ c.loop-stacks.invariant _ _ (MatchOption-at_some (Finished c.args.program.now c.args.choices.now c.loop-stacks.machine c.loop-stacks.mode c.step.new.machine) (λ next. Stepped c.args.program.now c.args.choices.now c.loop-stacks.machine c.loop-stacks.mode c.step.new.machine next) c.in-Some.next c.in-Some.is c.in-ok-next.ensures)
+loop-stacks-preserved c = driven_more _ _ _ _ _ _ c.loop-stacks.invariant _ _ (MatchOption-at_some (Finished c.args.program.now c.args.choices.now c.loop-stacks.machine c.loop-stacks.mode c.step.new.machine) (λ next. Stepped c.args.program.now c.args.choices.now c.loop-stacks.machine c.loop-stacks.mode c.step.new.machine next) c.in-Some.next c.in-Some.is c.in_ok-next.ensures)
 
 pub returns : goal.returns
-returns c = driven_done _ _ _ _ _ _ c.loop-stacks.invariant _ (MatchOption-at_none (Finished c.args.program.now c.args.choices.now c.loop-stacks.machine c.loop-stacks.mode c.step.new.machine) (λ next. Stepped c.args.program.now c.args.choices.now c.loop-stacks.machine c.loop-stacks.mode c.step.new.machine next) c.in-default.is c.in-ok-next.ensures)
+returns c = driven_done _ _ _ _ _ _ c.loop-stacks.invariant _ (MatchOption-at_none (Finished c.args.program.now c.args.choices.now c.loop-stacks.machine c.loop-stacks.mode c.step.new.machine) (λ next. Stepped c.args.program.now c.args.choices.now c.loop-stacks.machine c.loop-stacks.mode c.step.new.machine next) c.in_default.is c.in_ok-next.ensures)

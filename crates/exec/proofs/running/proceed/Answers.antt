@@ -5,8 +5,8 @@ use Rattle.exec.proofs.Framing.{bottom_same, bottom_rest, bottom_again}
 use Rattle.exec.proofs.Stepping.{popped_less}
 use Rattle.exec.proofs.running.proceed.Goals as goal
 
-pub give-back-requires : goal.give-back-requires
-give-back-requires c = record { fit = c.requires.fit; caller = kept_caller c.args.program.now c.args.frame c.in-Return.is c.requires.frame }
+pub give_back-requires : goal.give_back-requires
+give_back-requires c = record { fit = c.requires.fit; caller = kept_caller c.args.program.now c.args.frame c.in-Return.is c.requires.frame }
 
 pub returns-in-Rest : goal.returns-in-Rest
 returns-in-Rest c cs m popped =
