@@ -1,14 +1,14 @@
 -- Statements that look at numbers and write them, one step on.
-use Rattle.std.proofs.Common.{◌≡◌, ℕ, suc, ◌+◌, ◌-◌, ◌<◌, ◌≤◌, min, Bool, true, false, cond, ◌&&◌, List, [], ◌∷◌, length, drop, set, Some, None, Option, sym, refl, ap, ◌∙◌, subst, arith}
+use Rattle.std.proofs.Common.{◌≡◌, ℕ, suc, ◌+◌, ◌-◌, ◌<◌, ◌≤◌, min, Bool, true, false, cond, List, [], ◌∷◌, length, drop, set, Some, None, Option, sym, refl, ap, ◌∙◌, subst, arith}
 use Rattle.std.proofs.lemmas.Bool.{and_parts}
 use Rattle.std.specs.List.{slice_get}
 use Rattle.lang.specs.Base.{◌>>=◌, when, Word}
-use Rattle.lang.specs.Code.{code_expr, code_bool, code_stmt, code_block}
+use Rattle.lang.specs.Code.{code_expr, code_stmt, code_block}
 use Rattle.lang.specs.Holding.{Holds, code_of}
 use Rattle.lang.specs.Instr as instr
 use Rattle.lang.specs.Instr.{Instr}
 use Rattle.lang.specs.Meaning.{State, Run, Outcome, ok, failed, need, eval, holds, values_of, scalar, write, chosen, exec, exec_block}
-use Rattle.lang.specs.Soundness.{sound, sound_bool, sound_stmt, sound_block}
+use Rattle.lang.specs.Soundness.{sound, sound_stmt, sound_block}
 use Rattle.lang.specs.Syntax as syntax
 use Rattle.lang.specs.Syntax.{Expr, BoolExpr, Stmt, assign, store, check, havoc, seq, Decl}
 use Rattle.lang.specs.declared.program.Program.{Program}
@@ -16,15 +16,15 @@ use Rattle.walk.proofs.Outlines.{skipped}
 use Rattle.walk.specs.Walking.{first, rest}
 use Rattle.eval.proofs.Ops.{code_ops_expr, code_ops_bool, apply_expr, apply_bool, nesting_expr, nesting_bool}
 use Rattle.eval.specs.Kinds.{operand}
-use Rattle.eval.specs.Ops.{Op, Stacks, empty, push_number, code_ops, ops_expr, ops_bool, nesting, ops_nesting, apply_all}
+use Rattle.eval.specs.Ops.{Op, Stacks, empty, push_number, code_ops, ops_expr, ops_bool, ops_nesting, apply_all}
 use Rattle.exec.proofs.Resuming.{stmt_failed, stmt_done}
 use Rattle.exec.proofs.Stepping.{Works, assigning, storing, checking, Ahead, work, a_havoc, ahead, shallow, narrow}
-use Rattle.exec.specs.Activating.{names, params, now_state, old_state, Sized, Wrote}
-use Rattle.exec.specs.Deeds.{works, havocs, deed, Action, action, act_on, Stays, Acted, Worked}
+use Rattle.exec.specs.Activating.{names, params, now_state, old_state, Wrote}
+use Rattle.exec.specs.Deeds.{works, havocs, deed, action, act_on, Stays, Acted, Worked}
 use Rattle.exec.specs.Framing.{stack}
 use Rattle.exec.specs.Machine as formal
 use Rattle.exec.specs.Machine.{resume}
-use Rattle.exec.specs.Running.{Kept, Fit, BlockAt, run_of, Behind, Comes, in_block}
+use Rattle.exec.specs.Running.{Fit, BlockAt, run_of, Behind, Comes, in_block}
 use Rattle.exec.specs.declared.activation.Activation.{Activation}
 use Rattle.exec.specs.declared.frame.Mode.TheVariants.{Block}
 use Rattle.exec.specs.declared.machine.Machine.{Machine}

@@ -1,7 +1,7 @@
 -- What a sound procedure declares and does.
-use Rattle.std.proofs.Common.{◌≡◌, ℕ, Bool, true, false, cond, not, ◌&&◌, ◌||◌, eqb, leb, List, [], ◌∷◌, ◌++◌, map, length, Some, None, Option, sym, refl, ap, ◌∙◌, inl, inr, arith}
+use Rattle.std.proofs.Common.{◌≡◌, ℕ, Bool, true, false, not, leb, List, [], ◌∷◌, ◌++◌, map, length, Some, sym, refl, ap, ◌∙◌, inl, inr, arith}
 use Rattle.std.proofs.lemmas.Bool.{and_parts, or_parts, not-true, eq-eqb, cases_Bool}
-use Rattle.lang.specs.Base.{all_of, any_of, Word, same, among, distinct}
+use Rattle.lang.specs.Base.{all_of, Word, same, among, distinct}
 use Rattle.lang.specs.Soundness.{find_decl, find_proc, decl_name, proc_name, scope, sound_bool, sound_expr, sound_block, sound_proc, sound}
 use Rattle.lang.specs.Syntax.{Decl, Proc, Program}
 use Rattle.exec.specs.Activating.{Among, none, one}

@@ -1,10 +1,10 @@
 -- What a procedure asks for.
 use Rattle.std.proofs.Common.{◌≡◌, ℕ, ◌+◌, min, Bool, true, false, List, [], ◌∷◌, ◌++◌, length, Some, None, Option, unwrap_or, sym, refl, subst, ap, ◌∙◌, append-nil}
-use Rattle.lang.specs.Code.{code_bool, code_expr, code_locals, code_block, code_proc}
+use Rattle.lang.specs.Code.{code_bool, code_expr, code_locals, code_block}
 use Rattle.lang.specs.Holding.{Holds, code_of}
 use Rattle.lang.specs.Instr as instr
 use Rattle.lang.specs.Instr.{Instr}
-use Rattle.lang.specs.Meaning.{State, holds, true_in, zeros}
+use Rattle.lang.specs.Meaning.{holds, true_in, zeros}
 use Rattle.lang.specs.Soundness.{sound, sound_proc}
 use Rattle.lang.specs.Syntax as syntax
 use Rattle.lang.specs.Syntax.{Proc}

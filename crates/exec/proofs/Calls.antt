@@ -1,27 +1,26 @@
 -- Calls, one step on.
-use Rattle.std.proofs.Common.{◌≡◌, ℕ, suc, ◌+◌, ◌-◌, ◌^◌, ◌<◌, ◌≤◌, min, Bool, true, false, cond, ◌&&◌, List, [], ◌∷◌, ◌++◌, length, drop, Some, None, Option, Vec, sym, refl, ap, ◌∙◌, subst, arith}
+use Rattle.std.proofs.Common.{◌≡◌, ℕ, suc, ◌+◌, ◌-◌, ◌<◌, min, Bool, true, false, ◌&&◌, List, [], ◌∷◌, ◌++◌, length, drop, Some, None, Vec, sym, refl, ap, ◌∙◌, subst, arith}
 use Rattle.std.proofs.lemmas.List.{drop-drop}
 use Rattle.std.proofs.lemmas.Bool.{and_parts}
-use Rattle.std.specs.Option as options
 use Rattle.std.specs.declared.alloc.Global.{Global}
 use Rattle.lang.specs.Base.{maybe, Word, distinct}
 use Rattle.lang.specs.Code.{code_args, code_stmt, code_block, code_proc, code_procs}
 use Rattle.lang.specs.Holding.{Holds, code_of}
 use Rattle.lang.specs.Instr as instr
 use Rattle.lang.specs.Instr.{Instr}
-use Rattle.lang.specs.Meaning.{State, Run, Outcome, ok, failed, late, pass, pass_back, zeros, exec, exec_block, run_proc}
-use Rattle.lang.specs.Soundness.{sound, find_proc, same_sizes, sound_stmt, sound_block}
+use Rattle.lang.specs.Meaning.{State, Run, Outcome, ok, late, pass, pass_back, zeros, exec, exec_block, run_proc}
+use Rattle.lang.specs.Soundness.{sound, find_proc, same_sizes, sound_stmt}
 use Rattle.lang.specs.Syntax as syntax
 use Rattle.lang.specs.Syntax.{call, seq, Proc}
 use Rattle.lang.specs.declared.program.Program.{Program}
-use Rattle.walk.proofs.Outlines.{skipped, drop_min}
-use Rattle.walk.specs.Walking.{first, rest, word, declared, passed, Laid, ProcFound}
+use Rattle.walk.proofs.Outlines.{skipped}
+use Rattle.walk.specs.Walking.{first, rest, declared, passed, Laid, ProcFound}
 use Rattle.walk.specs.declared.procedures.Outline.{Outline}
 use Rattle.exec.proofs.Acting.{behind_block, first_sound, on_block}
-use Rattle.exec.proofs.Apart.{SoundProc, found_sound}
-use Rattle.exec.proofs.Resuming.{resume_failed, resume_late, stmt_late, stmt_begun}
+use Rattle.exec.proofs.Apart.{found_sound}
+use Rattle.exec.proofs.Resuming.{resume_late, stmt_begun}
 use Rattle.exec.proofs.Stepping.{Ahead, a_call, ahead}
-use Rattle.exec.specs.Activating.{names, params, now_state, old_state, Sized, Among}
+use Rattle.exec.specs.Activating.{names, params, now_state, old_state, Among}
 use Rattle.exec.specs.Calling.{Ready, Prepared, Unsound}
 use Rattle.exec.specs.Deeds.{calls, deed, Stays}
 use Rattle.exec.specs.Framing.{stack}

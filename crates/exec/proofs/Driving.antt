@@ -1,5 +1,5 @@
 -- Steps by what comes next, and by the last frame.
-use Rattle.std.proofs.Common.{◌≡◌, ℕ, Bool, true, false, List, [], ◌∷◌, sym, refl, ap, ◌∙◌, subst, arith}
+use Rattle.std.proofs.Common.{◌≡◌, ℕ, true, false, List, [], ◌∷◌, sym, refl, ap, ◌∙◌, subst, arith}
 use Rattle.lang.specs.Meaning.{State, Outcome, ok}
 use Rattle.lang.specs.Syntax as syntax
 use Rattle.lang.specs.Syntax.{Decl}
@@ -9,7 +9,7 @@ use Rattle.exec.specs.Deeds.{ends, shown, is_end}
 use Rattle.exec.specs.Framing.{stack}
 use Rattle.exec.specs.Machine as formal
 use Rattle.exec.specs.Machine.{resume}
-use Rattle.exec.specs.Running.{Kept, Stands, none, rest_stands, again_stands, run_of, Behind, Comes, in_block, in_loop, at_end, Popped, Fit, Stepped, Halted, Finished, Driven}
+use Rattle.exec.specs.Running.{Kept, Stands, none, rest_stands, again_stands, run_of, Comes, in_block, in_loop, at_end, Popped, Fit, Stepped, Halted, Finished, Driven}
 use Rattle.exec.specs.declared.activation.Activation.{Activation}
 use Rattle.exec.specs.declared.frame.Frame.{Frame}
 use Rattle.exec.specs.declared.frame.Frame.TheVariants.{Rest, Again, Return}

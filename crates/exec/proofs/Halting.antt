@@ -1,7 +1,7 @@
 -- Steps that do not come to another.
-use Rattle.std.proofs.Common.{◌≡◌, ℕ, true, List, IsErrAnd, Ok, Err, Result, refl, MatchResult}
+use Rattle.std.proofs.Common.{◌≡◌, ℕ, true, List, IsErrAnd, Ok, Err, Result, refl}
 use Rattle.lang.specs.Holding.{Holds}
-use Rattle.lang.specs.Meaning.{Outcome, failed, late}
+use Rattle.lang.specs.Meaning.{Outcome, failed}
 use Rattle.lang.specs.Soundness.{sound}
 use Rattle.lang.specs.Syntax as syntax
 use Rattle.lang.specs.declared.program.Program.{Program}
@@ -9,7 +9,7 @@ use Rattle.eval.specs.declared.failure.Failure.{Failure}
 use Rattle.lang.specs.Base.{Word}
 use Rattle.exec.specs.Calling.{Unsound, Unprepared}
 use Rattle.exec.specs.Deeds.{Untold, Untested}
-use Rattle.exec.specs.Running.{Comes, Stepped, Stopped, Halted, Steps}
+use Rattle.exec.specs.Running.{Comes, Halted, Steps}
 use Rattle.exec.specs.declared.frame.Mode.{Mode}
 use Rattle.exec.specs.declared.machine.Machine.{Machine}
 use Rattle.exec.specs.declared.stop.Stop.{Stop}

@@ -1,10 +1,9 @@
 -- Arguments: from the caller to the procedure, and back.
-use Rattle.std.proofs.Common.{◌≡◌, ℕ, ◌+◌, ◌-◌, ◌≤◌, Bool, true, false, cond, ◌&&◌, eqb, List, [], ◌∷◌, ◌++◌, length, take, drop, replicate, Some, None, vec_items, Option, sym, refl, ap, ◌∙◌, subst, inl, inr, append_assoc, append-nil, arith}
+use Rattle.std.proofs.Common.{◌≡◌, ℕ, ◌+◌, ◌-◌, true, false, cond, eqb, List, [], ◌∷◌, ◌++◌, length, replicate, Some, None, vec_items, Option, sym, refl, ap, ◌∙◌, subst, inl, inr, append_assoc, append-nil, arith}
 use Rattle.std.proofs.lemmas.List.{length-append, length-replicate, take-replicate, drop-replicate, replicate-append-replicate, take_all}
 use Rattle.std.proofs.lemmas.Bool.{and_parts, cases_Bool, eqb-true, both_ways}
-use Rattle.std.specs.Option.{option_map}
 use Rattle.lang.specs.Base.{◌>>=◌, maybe, Word, same}
-use Rattle.lang.specs.Meaning.{State, values_of, write, count, pass, pass_back, zeros}
+use Rattle.lang.specs.Meaning.{State, values_of, count, pass, pass_back, zeros}
 use Rattle.lang.specs.Soundness.{find_decl, same_sizes}
 use Rattle.lang.specs.Syntax.{Decl}
 use Rattle.lang.specs.declared.program.Program.{Program}
@@ -12,7 +11,7 @@ use Rattle.walk.specs.Walking.{rest, declared, passed}
 use Rattle.eval.proofs.States.{counts_append, values_at, state_append}
 use Rattle.eval.specs.States.{counts, state_of, slot_of}
 use Rattle.eval.specs.declared.names.Slot.{Slot}
-use Rattle.exec.specs.Activating.{names, params, now_state, old_state, Sized, Wrote, Among, none, one}
+use Rattle.exec.specs.Activating.{names, params, now_state, Sized, Among, one}
 use Rattle.exec.specs.Passing.{Begun, Passed, Handed, HandedBack, Unlike}
 use Rattle.exec.specs.declared.activation.Activation.{Activation}
 use Rattle.exec.proofs.Writing.{row_length}

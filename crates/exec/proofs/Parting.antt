@@ -1,5 +1,5 @@
 -- Where the parts of statements stand in the code.
-use Rattle.std.proofs.Common.{◌≡◌, ℕ, ◌+◌, min, List, [], ◌∷◌, length, drop, sym, refl, ap, ◌∙◌, arith}
+use Rattle.std.proofs.Common.{◌≡◌, ℕ, ◌+◌, min, List, [], ◌∷◌, length, drop, sym, ap, ◌∙◌, arith}
 use Rattle.std.proofs.lemmas.List.{drop-drop}
 use Rattle.lang.proofs.Codes.{bool_front, expr_front, block_front}
 use Rattle.lang.specs.Code.{code_expr, code_bool, code_stmt, code_block}

@@ -1,10 +1,8 @@
 -- How a machine goes on, one step at a time.
-use Rattle.std.proofs.Common.{◌≡◌, ℕ, zero, suc, Bool, true, false, cond, List, [], ◌∷◌, ◌++◌, Some, None, sym, refl, ap, ◌∙◌}
-use Rattle.lang.specs.Base.{Word}
-use Rattle.lang.specs.Meaning.{State, Run, Outcome, ok, failed, late, holds, pass, zeros, pass_back, exec, exec_block, run_proc}
-use Rattle.lang.specs.Soundness.{find_proc}
-use Rattle.lang.specs.Syntax.{Expr, BoolExpr, Stmt, branch, loop, call, Block, end, seq, Decl, Proc, Program}
-use Rattle.exec.specs.Machine.{Frame, rest_of, again, return_to, returned, resume}
+use Rattle.std.proofs.Common.{◌≡◌, ℕ, suc, List, [], ◌∷◌, sym, refl, ◌∙◌}
+use Rattle.lang.specs.Meaning.{State, Run, Outcome, ok, failed, late, exec, exec_block}
+use Rattle.lang.specs.Syntax.{Stmt, Block, end, seq, Program}
+use Rattle.exec.specs.Machine.{Frame, rest_of, again, return_to, resume}
 
 module _ (p : Program) where
   pub resume_failed : (o : State) (fs : List Frame) → resume p o fs failed ≡ failed

@@ -1,14 +1,14 @@
 -- What a machine comes to, one step on.
-use Rattle.std.proofs.Common.{◌≡◌, ℕ, zero, suc, ◌+◌, ◌-◌, ◌*◌, ◌^◌, ◌<◌, ◌≤◌, min, Bool, true, false, cond, ◌&&◌, leb, List, [], ◌∷◌, ◌++◌, length, drop, Some, None, vec_items, Vec, sym, refl, ap, ◌∙◌, subst, arith}
+use Rattle.std.proofs.Common.{◌≡◌, ℕ, zero, suc, ◌+◌, ◌-◌, ◌*◌, ◌^◌, ◌<◌, ◌≤◌, min, Bool, true, false, cond, ◌&&◌, leb, List, [], ◌∷◌, length, Some, None, Vec, sym, refl, ap, ◌∙◌, subst, arith}
 use native.Mathlib.Nat.{pow-succ', pow-le-pow_right}
 use Rattle.std.proofs.lemmas.Bool.{and_parts, leb-true}
 use Rattle.std.specs.declared.alloc.Global.{Global}
 use Rattle.lang.specs.Base.{Word}
-use Rattle.lang.specs.Code.{code_expr, code_bool, code_args, code_stmt, code_block}
+use Rattle.lang.specs.Code.{code_expr, code_bool, code_stmt, code_block}
 use Rattle.lang.specs.Holding.{Holds, code_of}
 use Rattle.lang.specs.Instr as instr
 use Rattle.lang.specs.Instr.{Instr}
-use Rattle.lang.specs.Meaning.{State, Run, Outcome, ok, failed, late, need, holds, eval, exec, exec_block}
+use Rattle.lang.specs.Meaning.{State, Run, Outcome, ok, failed, late, holds, exec, exec_block}
 use Rattle.lang.specs.Soundness.{sound, sound_bool, sound_expr, sound_stmt, sound_block}
 use Rattle.lang.specs.Syntax as syntax
 use Rattle.lang.specs.Syntax.{Expr, num, var, old, binary, index, old_index, BoolExpr, truth, compare, conj, disj, implies, negate, for_all, Stmt, assign, store, branch, loop, check, call, havoc, end, seq, Decl}
@@ -18,15 +18,15 @@ use Rattle.walk.specs.Walking.{first, rest}
 use Rattle.eval.proofs.Ops.{sound_nesting}
 use Rattle.eval.specs.Kinds.{operand}
 use Rattle.eval.specs.Ops.{nesting}
-use Rattle.exec.proofs.Resuming.{resume_failed, resume_late, block_late, loop_late, block_end, stmt_late, stmt_failed, stmt_done, stmt_begun}
-use Rattle.exec.specs.Activating.{names, params, now_state, old_state, Sized, Among}
+use Rattle.exec.proofs.Resuming.{resume_failed, block_late, loop_late, block_end, stmt_late, stmt_failed, stmt_begun}
+use Rattle.exec.specs.Activating.{names, params, now_state, old_state, Sized}
 use Rattle.exec.specs.Deeds as deeds
 use Rattle.exec.specs.Deeds.{Deed, works, tests, repeats, calls, havocs, ends, deed, shown, Stays, Tested, Untold}
-use Rattle.exec.specs.Framing.{stack, frame_weight, weight, mode_weight}
+use Rattle.exec.specs.Framing.{stack, frame_weight, weight}
 use Rattle.exec.specs.Machine as formal
 use Rattle.exec.specs.Machine.{rest_of, again, return_to, resume}
-use Rattle.exec.specs.Parts.{code_ways, code_rounds, BranchLaid, LoopLaid}
-use Rattle.exec.specs.Running.{Ends, at_else, at_end_if, at_end_while, at_end_proc, Kept, Fit, BlockAt, LoopAt, Stands, none, rest_stands, again_stands, return_stands, run_of, Behind, Comes, in_block, in_loop, at_end, Stepped, Stopped, Halted, with_frames}
+use Rattle.exec.specs.Parts.{code_ways, BranchLaid, LoopLaid}
+use Rattle.exec.specs.Running.{Ends, at_else, at_end_if, at_end_while, at_end_proc, Kept, Fit, BlockAt, rest_stands, again_stands, run_of, Behind, Comes, in_block, in_loop, at_end, with_frames}
 use Rattle.exec.specs.declared.activation.Activation.{Activation}
 use Rattle.exec.specs.declared.frame.Frame.{Frame}
 use Rattle.exec.specs.declared.frame.Frame.TheVariants.{Rest, Again, Return}

@@ -1,5 +1,5 @@
 -- Conditions, by the operations on the stacks.
-use Rattle.std.proofs.Common.{◌≡◌, ℕ, ◌≤◌, Bool, false, List, [], ◌∷◌, Some, None, Option, sym, refl, ap, ◌∙◌, arith}
+use Rattle.std.proofs.Common.{◌≡◌, ℕ, ◌≤◌, Bool, false, List, [], ◌∷◌, Some, None, sym, ap, ◌∙◌, arith}
 use Rattle.lang.specs.Code.{code_bool}
 use Rattle.lang.specs.Instr.{Instr}
 use Rattle.lang.specs.Meaning.{holds}

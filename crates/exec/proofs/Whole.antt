@@ -1,7 +1,6 @@
 -- Whole runs.
-use Rattle.std.proofs.Common.{◌≡◌, ℕ, suc, ◌-◌, true, List, [], ◌∷◌, ◌++◌, length, drop, vec_items, Vec, sym, refl, ap, ◌∙◌, subst}
+use Rattle.std.proofs.Common.{◌≡◌, ℕ, suc, true, List, [], ◌++◌, length, drop, vec_items, Vec, sym, refl, ap, ◌∙◌, subst}
 use Rattle.std.specs.declared.alloc.Global.{Global}
-use Rattle.lang.specs.Code.{code_block, code_proc}
 use Rattle.lang.specs.Holding.{Holds}
 use Rattle.lang.specs.Instr as instr
 use Rattle.lang.specs.Instr.{Instr}
@@ -13,17 +12,16 @@ use Rattle.lang.specs.Syntax.{Proc}
 use Rattle.lang.specs.declared.program.Program.{Program}
 use Rattle.walk.specs.Walking.{rest, declared, Laid}
 use Rattle.walk.specs.declared.procedures.Outline.{Outline}
-use Rattle.eval.specs.States.{counts, state_of}
+use Rattle.eval.specs.States.{state_of}
 use Rattle.exec.proofs.Apart.{proc_parts}
 use Rattle.exec.specs.Activating.{names, params, now_state, old_state}
 use Rattle.exec.specs.Framing.{stack, bottom}
 use Rattle.exec.specs.Machine.{resume}
 use Rattle.exec.specs.Outcomes.{Below, Checked, Ran, Says, begins_with, Final, Finally}
 use Rattle.exec.specs.Passing.{Begun}
-use Rattle.exec.specs.Running.{at_end_proc, Kept, Fit, none, run_of, Comes, in_block, Finished, Halted}
+use Rattle.exec.specs.Running.{at_end_proc, Kept, Fit, none, Comes, in_block}
 use Rattle.exec.specs.Starting.{Started}
 use Rattle.exec.specs.declared.frame.Frame.{Frame}
-use Rattle.exec.specs.declared.frame.Mode.{Mode}
 use Rattle.exec.specs.declared.frame.Mode.TheVariants.{Block}
 use Rattle.exec.specs.declared.machine.Machine.{Machine}
 use Rattle.exec.specs.declared.outcome.Ended.{Ended as TheEnded}

@@ -1,18 +1,18 @@
 -- Writing the numbers of names.
-use borrow.Rule.Slice.PartMut.{put_mid, post_of}
-use Rattle.std.proofs.Common.{◌≡◌, ℕ, zero, suc, ◌+◌, ◌-◌, ◌<◌, ◌≤◌, true, false, cond, eqb, List, [], ◌∷◌, ◌++◌, length, get_or, take, drop, set, Some, None, vec_items, sym, refl, ap, ◌∙◌, arith}
+use borrow.Rule.Slice.PartMut.{put_mid}
+use Rattle.std.proofs.Common.{◌≡◌, ℕ, ◌+◌, ◌<◌, ◌≤◌, eqb, List, [], ◌∷◌, ◌++◌, length, get_or, take, drop, set, Some, None, vec_items, sym, refl, ap, ◌∙◌, arith}
 use Rattle.std.proofs.lemmas.List.{length-append, length-take-le, length-drop, length-set, take_at}
 use Rattle.std.proofs.lemmas.Option.{slice_get-get_or, slice_get_past}
 use Rattle.std.proofs.lemmas.Bool.{ne_eqb}
 use Rattle.std.specs.List.{slice_get}
-use Rattle.lang.specs.Base.{when, Word, ◌>>=◌}
-use Rattle.lang.specs.Meaning.{State, values_of, scalar, element, write}
+use Rattle.lang.specs.Base.{when, Word}
+use Rattle.lang.specs.Meaning.{scalar, element, write}
 use Rattle.lang.specs.Syntax.{Decl}
 use Rattle.lang.specs.declared.program.Program.{Program}
-use Rattle.eval.proofs.States.{values_at, values_missing, write_row, write_element, slot_within, slot_fits}
+use Rattle.eval.proofs.States.{values_at, values_missing, write_row, write_element, slot_fits}
 use Rattle.eval.specs.States.{counts, state_of, slot_of}
 use Rattle.eval.specs.declared.names.Slot.{Slot}
-use Rattle.exec.specs.Activating.{names, params, now_state, Sized, Wrote, Assigned, Stored}
+use Rattle.exec.specs.Activating.{names, now_state, Sized, Wrote, Assigned, Stored}
 use Rattle.exec.specs.declared.activation.Activation.{Activation}
 
 -- numbers written into a row

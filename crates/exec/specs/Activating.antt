@@ -1,5 +1,5 @@
 -- The names of a procedure that has begun, and their numbers.
-use Rattle.std.specs.Prelude.{◌≡◌, ℕ, ◌<◌, Bool, true, false, List, [], ◌∷◌, length, Some, vec_items, slice_set}
+use Rattle.std.specs.Prelude.{◌≡◌, ℕ, List, [], ◌∷◌, length, Some, vec_items, slice_set}
 use Rattle.std.specs.List.{slice_get}
 use Rattle.lang.specs.Base.{Word}
 use Rattle.lang.specs.Meaning.{State, values_of, scalar, write}

@@ -1,7 +1,7 @@
 -- Running a program without recursion: what is still to be done stands on a stack of frames.
 use Rattle.std.specs.Prelude.{ℕ, List, [], ◌∷◌}
 use Rattle.lang.specs.Base.{Word}
-use Rattle.lang.specs.Meaning.{State, Run, Outcome, ok, and_then, need, pass_back, exec, exec_block}
+use Rattle.lang.specs.Meaning.{State, Outcome, ok, and_then, need, pass_back, exec, exec_block}
 use Rattle.lang.specs.Syntax.{Expr, BoolExpr, Block, loop, Decl, Program}
 
 -- u: the fuel with which to go on

@@ -1,11 +1,11 @@
 -- What a machine in lent words stands for.
-use Rattle.std.specs.Prelude.{◌≡◌, ℕ, ◌+◌, ◌<◌, Bool, true, false, List, [], ◌∷◌, drop, Result, Vec, MatchResult}
+use Rattle.std.specs.Prelude.{◌≡◌, ℕ, ◌+◌, ◌<◌, true, List, [], ◌∷◌, drop, Result, Vec, MatchResult}
 use Rattle.std.specs.declared.alloc.Global.{Global}
 use Rattle.lang.specs.Code.{code_stmt, code_block}
 use Rattle.lang.specs.Holding.{Holds}
 use Rattle.lang.specs.Instr as instr
 use Rattle.lang.specs.Instr.{Instr}
-use Rattle.lang.specs.Meaning.{State, Run, Outcome, ok, failed, late, exec, exec_block}
+use Rattle.lang.specs.Meaning.{Run, Outcome, ok, failed, late, exec, exec_block}
 use Rattle.lang.specs.Soundness.{sound, sound_stmt, sound_block, same_sizes}
 use Rattle.lang.specs.Syntax as syntax
 use Rattle.lang.specs.Syntax.{Expr, BoolExpr, loop, Decl}

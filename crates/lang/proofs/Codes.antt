@@ -1,5 +1,5 @@
 -- The code of a piece in front of other code is its own code, then the other.
-use Rattle.std.proofs.Common.{◌≡◌, List, [], ◌∷◌, ◌++◌, sym, refl, ap, ◌∙◌, append_assoc, append-nil}
+use Rattle.std.proofs.Common.{◌≡◌, List, [], ◌∷◌, ◌++◌, sym, refl, ap, ◌∙◌, append_assoc}
 use Rattle.lang.specs.Base.{Word}
 use Rattle.lang.specs.Code.{code_expr, code_bool, code_args, code_stmt, code_block, code_params, code_locals, code_size}
 use Rattle.lang.specs.Instr as instr

@@ -1,6 +1,6 @@
 -- How much there is to show of a program: its pieces, a place in a row as often as rows are long, `all` as often as it counts.
-use Rattle.std.specs.Prelude.{ℕ, ◌+◌, ◌*◌, cond, List, [], ◌∷◌}
-use Rattle.lang.specs.Base.{maybe, Word}
+use Rattle.std.specs.Prelude.{ℕ, ◌+◌, ◌*◌, List, [], ◌∷◌}
+use Rattle.lang.specs.Base.{maybe}
 use Rattle.lang.specs.Soundness.{find_proc, scope}
 use Rattle.lang.specs.Syntax.{Expr, num, var, old, binary, index, old_index, BoolExpr, truth, compare, conj, disj, implies, negate, for_all, Stmt, assign, store, branch, loop, check, call, havoc, Block, end, seq, Decl, Proc, Program}
 

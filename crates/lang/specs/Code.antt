@@ -1,10 +1,10 @@
 -- A program as a row of instructions: operands before what is done with them, statements in the order of the text.
 -- Each function puts the code of its piece in front of k, the code of what comes behind.
-use Rattle.std.specs.Prelude.{ℕ, cond, List, [], ◌∷◌, length, ◌==◌}
+use Rattle.std.specs.Prelude.{cond, List, [], ◌∷◌, length, ◌==◌}
 use Rattle.lang.specs.Base.{Word}
 use Rattle.lang.specs.Instr as instr
 use Rattle.lang.specs.Instr.{Instr}
-use Rattle.lang.specs.Syntax.{Expr, num, var, old, binary, index, old_index, BoolExpr, truth, compare, conj, disj, implies, negate, for_all, Stmt, assign, store, branch, loop, check, call, havoc, Block, end, seq, Decl, Proc, Program}
+use Rattle.lang.specs.Syntax.{Expr, num, var, old, binary, index, old_index, BoolExpr, truth, compare, conj, disj, implies, negate, for_all, Stmt, assign, store, branch, loop, check, call, havoc, Block, end, seq, Decl, Proc}
 
 unfoldable pub code_expr : Expr → List Instr → List Instr
 code_expr (num n) k = instr.num n ∷ k

@@ -1,6 +1,6 @@
 -- From tokens to a program. Each function reads the longest piece of its kind, and gives it with the tokens behind it.
 -- The number that most functions take first bounds how deep calls go. `reads` begins with more than any text can use.
-use Rattle.std.specs.Prelude.{ℕ, zero, suc, ◌+◌, ◌*◌, Bool, true, false, cond, List, [], ◌∷◌, length, Some, None, Option, ◌==◌}
+use Rattle.std.specs.Prelude.{ℕ, zero, suc, ◌+◌, ◌*◌, Bool, false, cond, List, [], ◌∷◌, length, Some, None, Option, ◌==◌}
 use Rattle.lang.specs.Base.{◌>>=◌, when, maybe, Word, same}
 use Rattle.lang.specs.Syntax.{Expr, num, var, old, binary, index, old_index, BoolExpr, truth, compare, conj, disj, implies, negate, for_all, Stmt, assign, store, branch, loop, check, call, havoc, Block, end, seq, Decl, Proc, Program}
 use Rattle.lang.specs.Tokens.{Token, fixed, name, number, stray, spelled, tokens}

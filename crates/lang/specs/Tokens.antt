@@ -1,5 +1,5 @@
 -- From bytes to tokens.
-use Rattle.std.specs.Prelude.{ℕ, ◌+◌, ◌-◌, ◌*◌, ◌^◌, Bool, true, false, cond, not, ◌&&◌, ◌||◌, List, [], ◌∷◌, ◌++◌, map, Some, None, codes, Option, ◌==◌, nat_le, nat_lt}
+use Rattle.std.specs.Prelude.{ℕ, ◌+◌, ◌-◌, ◌*◌, ◌^◌, Bool, cond, ◌&&◌, ◌||◌, List, [], ◌∷◌, ◌++◌, map, Some, None, codes, Option, ◌==◌, nat_le, nat_lt}
 use Rattle.lang.specs.Base.{◌>>=◌, when, maybe, Word, same}
 use Rattle.lang.specs.declared.token.Fixed.{Fixed}
 use Rattle.lang.specs.declared.token.Fixed.TheVariants.{Width, Proc, Pre, Post, Measure, Var, If, Else, While, Keep, Check, Any, Old, Yes, Not, And, Or, All, LeftParen, RightParen, LeftBracket, RightBracket, LeftBrace, RightBrace, Comma, Semicolon, Gets, Equals, Implies, LessThan, AtMost, Plus, Minus, Times, Over, Percent}

@@ -2,6 +2,7 @@
 use crate::code::Node;
 use lent::View;
 
+#[derive(Drop)]
 pub struct Program<'a> {
     pub text: &'a [u8],
     pub width: u64,

@@ -1,12 +1,11 @@
 -- The names that a call hands over.
-use Rattle.std.proofs.Common.{◌≡◌, false, List, [], ◌∷◌, ◌++◌, None, sym, refl, ap, ◌∙◌}
+use Rattle.std.proofs.Common.{◌≡◌, false, List, [], ◌∷◌, ◌++◌, None, refl, ap, ◌∙◌}
 use Rattle.lang.specs.Base.{Word}
 use Rattle.lang.specs.Code.{code_args}
 use Rattle.lang.specs.Grammar.{starts}
 use Rattle.lang.specs.Instr as instr
 use Rattle.lang.specs.Instr.{Instr}
 use Rattle.lang.specs.declared.token.Fixed.TheVariants.{RightParen}
-use Rattle.lang.proofs.Codes.{one_front}
 use Rattle.parse.specs.Listed.{codes}
 use Rattle.parse.specs.Reading.{Snap, Read}
 use Rattle.parse.specs.Unbounded.{names∞, maybe_names∞}

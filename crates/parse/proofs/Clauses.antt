@@ -1,7 +1,7 @@
 -- A word, a piece and a semicolon.
-use Rattle.std.proofs.Common.{◌≡◌, List, ◌++◌, Some, None, sym, refl, ap, ◌∙◌, subst}
+use Rattle.std.proofs.Common.{◌≡◌, List, ◌++◌, Some, None, sym, ap, ◌∙◌, subst}
 use Rattle.lang.specs.Base.{◌>>=◌}
-use Rattle.lang.specs.Grammar.{Parsed, onward, expect}
+use Rattle.lang.specs.Grammar.{Parsed, expect}
 use Rattle.lang.specs.Instr.{Instr}
 use Rattle.lang.specs.Tokens.{Token}
 use Rattle.lang.specs.declared.token.Fixed.{Fixed}

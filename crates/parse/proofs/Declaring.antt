@@ -1,9 +1,8 @@
 -- Reading declarations.
-use Rattle.std.proofs.Common.{◌≡◌, ℕ, ◌+◌, ◌<◌, Bool, true, false, cond, eqb, List, [], ◌∷◌, ◌++◌, length, Some, None, Option, sym, refl, ap, ◌∙◌, append_assoc, arith}
-use Rattle.std.proofs.lemmas.List.{length_push}
-use Rattle.lang.specs.Base.{Word, ◌>>=◌}
+use Rattle.std.proofs.Common.{◌≡◌, ℕ, true, false, eqb, List, [], ◌∷◌, ◌++◌, Some, None, sym, refl, ap, ◌∙◌, append_assoc}
+use Rattle.lang.specs.Base.{Word}
 use Rattle.lang.specs.Code.{code_size, code_params, code_locals}
-use Rattle.lang.specs.Grammar.{Parsed, starts, onward, expect, a_name, a_number, declaration}
+use Rattle.lang.specs.Grammar.{starts, onward, expect, a_name, a_number, declaration}
 use Rattle.lang.specs.Instr as instr
 use Rattle.lang.specs.Instr.{Instr, scalar, row}
 use Rattle.lang.specs.Syntax.{Decl}
@@ -11,7 +10,7 @@ use Rattle.lang.specs.Tokens.{Token}
 use Rattle.lang.specs.declared.token.Fixed.TheVariants as the
 use Rattle.parse.specs.Declaring.{sized, role_instr, role_code}
 use Rattle.parse.specs.Listed.{codes}
-use Rattle.parse.specs.Reading.{Snap, Read, Paid, advanced, emitted}
+use Rattle.parse.specs.Reading.{Snap, Read, advanced, emitted}
 use Rattle.parse.specs.Unbounded.{declarations∞, parameters∞, local_variables∞}
 use Rattle.lang.proofs.Codes.{Front, one_front, then_front}
 use Rattle.parse.specs.declared.declarations.Role.{Role}

@@ -1,5 +1,5 @@
 -- Each step of reading a block keeps what the grammar makes of the rest.
-use Rattle.std.proofs.Common.{◌≡◌, ℕ, ◌+◌, ◌-◌, ◌<◌, ◌≤◌, Bool, true, false, cond, List, [], ◌∷◌, ◌++◌, length, take, set, Some, None, Option, sym, refl, ap, ◌∙◌, subst, append_assoc, append-nil, arith, length-append, length-set}
+use Rattle.std.proofs.Common.{◌≡◌, ℕ, ◌+◌, ◌-◌, ◌<◌, ◌≤◌, true, false, List, [], ◌∷◌, ◌++◌, length, take, set, Some, None, sym, refl, ap, ◌∙◌, subst, append_assoc, append-nil, arith, length-append, length-set}
 use Rattle.std.proofs.lemmas.List.{length_push, set_at}
 use Rattle.lang.specs.Base.{◌>>=◌}
 use Rattle.lang.specs.Code.{code_expr, code_bool, code_stmt, code_block}
@@ -9,11 +9,11 @@ use Rattle.lang.specs.Instr.{Instr}
 use Rattle.lang.specs.Syntax.{BoolExpr, Stmt, branch, loop, Block, end, seq}
 use Rattle.lang.specs.Tokens.{Token}
 use Rattle.lang.specs.declared.token.Fixed.TheVariants as the
-use Rattle.lang.proofs.Codes.{Front, one_front, then_front, stmt_front, block_front, bool_front, expr_front}
-use Rattle.parse.specs.InBlock.{listed, Nest, outermost, in_then, in_else, in_loop, around, then_code, else_code, loop_code, nest_code, Placed, after_block, AtStatement, kind_instr, kind_part, block_opened, sealed, BlockWhole, Headed, Closed}
+use Rattle.lang.proofs.Codes.{one_front, then_front, stmt_front, block_front, bool_front, expr_front}
+use Rattle.parse.specs.InBlock.{listed, Nest, outermost, in_then, in_else, in_loop, around, then_code, loop_code, nest_code, Placed, after_block, AtStatement, kind_instr, kind_part, block_opened, sealed, BlockWhole, Headed}
 use Rattle.parse.specs.Listed.{codes}
 use Rattle.parse.specs.Parts.{part_code, measure_code}
-use Rattle.parse.specs.Reading.{Snap, Read, Room, Paid, advanced, emitted, opened, closed, patched, last_open}
+use Rattle.parse.specs.Reading.{Snap, Read, Room, Paid, advanced, emitted, closed, last_open}
 use Rattle.parse.specs.Unbounded.{formula∞, condition∞, measured∞, block∞, statement∞, if_head∞, while_head∞}
 use Rattle.parse.specs.declared.open.Open.{Open}
 use Rattle.parse.specs.declared.open.Open.TheVariants.{Then, Else, Do}

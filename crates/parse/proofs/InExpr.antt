@@ -8,11 +8,11 @@ use Rattle.lang.specs.Code.{code_expr}
 use Rattle.lang.specs.Grammar.{Parsed, is, starts, onward, expect, a_name, a_number, additive, multiplicative}
 use Rattle.lang.specs.Instr as instr
 use Rattle.lang.specs.Instr.{Instr, name_at}
-use Rattle.parse.specs.InExpr.{tight, same_tier, of_tier, last_waiting, completed, Waiting, Level, Context, parenthesis, row, old_row, Nest, outermost, inside, context, waits, waiting, around, left_code, level_code, nest_code, join, leave, after_sum, after_product, after_atom, AtOperand, BehindAtom, BehindSum, InExpr, Used, behind_name, name_step}
+use Rattle.parse.specs.InExpr.{tight, same_tier, of_tier, last_waiting, completed, Waiting, Level, Context, parenthesis, row, old_row, Nest, outermost, inside, context, waits, waiting, around, left_code, level_code, nest_code, leave, after_sum, after_product, after_atom, AtOperand, BehindAtom, BehindSum, InExpr, Used, behind_name, name_step}
 use Rattle.parse.specs.Reading.{Snap, Read, Paid, advanced, emitted, opened, closed, last_open}
 use Rattle.lang.specs.Syntax.{Expr, num, var, old, binary, index, old_index}
 use Rattle.lang.specs.Tokens.{Token, fixed, name, number, stray}
-use Rattle.parse.specs.Unbounded.{sum∞, sum_rest∞, product∞, product_rest∞, atom∞}
+use Rattle.parse.specs.Unbounded.{sum∞, sum_rest∞, product_rest∞, atom∞}
 use Rattle.lang.specs.declared.code.Place.{Place}
 use Rattle.parse.specs.declared.expression.Step.{Step}
 use Rattle.parse.specs.declared.expression.Step.TheVariants.{Operand, Atom, Done}

@@ -1,5 +1,5 @@
 -- Reading items with commas, whatever the items are.
-use Rattle.std.proofs.Common.{◌≡◌, Bool, true, false, cond, List, [], ◌∷◌, ◌++◌, Some, None, Option, sym, refl, ap, ◌∙◌, append_assoc, append-nil}
+use Rattle.std.proofs.Common.{◌≡◌, Bool, true, false, cond, List, [], ◌∷◌, ◌++◌, Some, None, sym, refl, ap, ◌∙◌, append_assoc, append-nil}
 use Rattle.lang.specs.Base.{◌>>=◌}
 use Rattle.lang.specs.Grammar.{Parsed, starts, onward, expect}
 use Rattle.lang.specs.Instr.{Instr}

@@ -1,18 +1,18 @@
 -- Statements that have no statements inside.
-use Rattle.std.proofs.Common.{◌≡◌, ℕ, ◌+◌, ◌<◌, Bool, true, false, cond, List, [], ◌∷◌, ◌++◌, length, Some, None, sym, refl, ap, ◌∙◌, subst, append_assoc, arith}
+use Rattle.std.proofs.Common.{◌≡◌, ℕ, ◌+◌, ◌<◌, true, false, List, [], ◌∷◌, ◌++◌, length, Some, None, sym, refl, ap, ◌∙◌, subst, append_assoc, arith}
 use Rattle.std.proofs.lemmas.List.{length_push}
 use Rattle.lang.specs.Base.{◌>>=◌, Word}
 use Rattle.lang.specs.Code.{code_expr, code_stmt}
-use Rattle.lang.specs.Grammar.{Parsed, starts, onward, expect, a_name, ended, else_head}
+use Rattle.lang.specs.Grammar.{starts, onward, expect, a_name, ended, else_head}
 use Rattle.lang.specs.Instr as instr
 use Rattle.lang.specs.Instr.{Instr}
-use Rattle.lang.specs.Syntax.{Expr, assign, store, branch, loop, check, call, havoc}
+use Rattle.lang.specs.Syntax.{Expr, assign, branch, loop, check, havoc}
 use Rattle.lang.specs.Tokens.{Token, fixed, name, number, stray}
 use Rattle.lang.specs.declared.token.Fixed.TheVariants as the
 use Rattle.lang.proofs.Codes.{expr_front}
 use Rattle.parse.specs.Reading.{Snap, Read, Room, Paid, advanced, emitted}
-use Rattle.parse.specs.Unbounded.{sum∞, formula∞, maybe_names∞, named_statement∞, if_head∞, while_head∞, block∞, statement∞}
-use Rattle.parse.proofs.Heads.{fixed_ahead, starts_long, name_long, expect_starts}
+use Rattle.parse.specs.Unbounded.{sum∞, formula∞, named_statement∞, if_head∞, while_head∞, block∞, statement∞}
+use Rattle.parse.proofs.Heads.{fixed_ahead, expect_starts}
 use Rattle.parse.proofs.Rooms.{paid_then, paid_advance}
 use Rattle.parse.proofs.Rules.{named_statement_rule, statement_end, statement_fixed, statement_name, statement_number, statement_stray}
 

@@ -1,22 +1,21 @@
 -- Whole procedures.
-use Rattle.std.proofs.Common.{◌≡◌, ℕ, ◌+◌, ◌-◌, ◌<◌, List, [], ◌∷◌, ◌++◌, length, set, Some, None, Option, sym, refl, ap, ◌∙◌, subst, append_assoc, arith, length-append}
+use Rattle.std.proofs.Common.{◌≡◌, ◌+◌, ◌-◌, ◌<◌, List, [], ◌∷◌, ◌++◌, length, set, Some, Option, sym, refl, ap, ◌∙◌, subst, append_assoc, arith, length-append}
 use Rattle.std.proofs.lemmas.List.{length_push, set_at}
 use Rattle.lang.specs.Base.{◌>>=◌}
 use Rattle.lang.specs.Code.{code_expr, code_bool, code_block, code_params, code_locals, code_parts, code_proc}
-use Rattle.lang.specs.Grammar.{Parsed, onward, expect, a_name}
+use Rattle.lang.specs.Grammar.{onward, expect, a_name}
 use Rattle.lang.specs.Instr as instr
 use Rattle.lang.specs.Instr.{Instr}
 use Rattle.lang.specs.Syntax.{Proc}
 use Rattle.lang.specs.Tokens.{Token}
 use Rattle.lang.specs.declared.token.Fixed.TheVariants as the
-use Rattle.lang.proofs.Codes.{Front, one_front, then_front, params_front, locals_front, bool_front, expr_front, block_front}
+use Rattle.lang.proofs.Codes.{params_front, locals_front, bool_front, expr_front, block_front}
 use Rattle.parse.specs.Parts.{part_code, measure_code}
 use Rattle.parse.specs.Procedures.{Signature, Terms, Body, signature∞, terms∞, body∞, signature_code, terms_code, body_code}
 use Rattle.parse.specs.Reading.{Snap, Read, Room, Paid, advanced, emitted, patched}
 use Rattle.parse.specs.Unbounded.{parameters∞, condition∞, measured∞, local_variables∞, block∞, procedure∞}
 use Rattle.parse.specs.declared.parts.Part.TheVariants.{Pre, Post}
 use Rattle.parse.proofs.Binds.{>>=-assoc, >>=-ext}
-use Rattle.parse.proofs.Rooms.{paid_then}
 use Rattle.parse.proofs.Rules.{procedure_rule}
 
 -- the brace pays for the instruction with the body's length, and for the last

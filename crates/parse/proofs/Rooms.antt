@@ -1,10 +1,9 @@
 -- What is written and opened is paid for by the tokens that are read.
-use Rattle.std.proofs.Common.{◌≡◌, ℕ, ◌+◌, ◌-◌, ◌*◌, ◌<◌, ◌≤◌, List, [], ◌∷◌, ◌++◌, length, take, sym, refl, ap, ◌∙◌, arith, length-take}
-use Rattle.std.proofs.lemmas.List.{length_push, length-take-le}
+use Rattle.std.proofs.Common.{◌≡◌, ◌+◌, ◌-◌, ◌<◌, [], ◌∷◌, ◌++◌, length, refl, ◌∙◌, arith, length-take}
+use Rattle.std.proofs.lemmas.List.{length_push}
 use Rattle.lang.specs.Grammar.{onward}
 use Rattle.lang.specs.Instr.{Instr}
-use Rattle.parse.specs.Reading.{Snap, Room, Paid, advanced, emitted, opened, closed}
-use Rattle.parse.specs.declared.open.Open.{Open}
+use Rattle.parse.specs.Reading.{Snap, Room, Paid, advanced, emitted, closed}
 
 pub paid_none : (s : Snap) → Paid s s
 paid_none s = record { code = omega arith; pending = omega arith; code_room = refl; pending_room = refl }

@@ -1,9 +1,8 @@
 -- Whole texts.
-use Rattle.std.proofs.Common.{◌≡◌, ℕ, ◌*◌, ◌≤◌, Bool, true, false, List, [], ◌∷◌, ◌++◌, length, Some, None, Option, sym, refl, ap, ◌∙◌, subst, append_assoc, append-nil, arith}
+use Rattle.std.proofs.Common.{◌≡◌, ℕ, ◌*◌, ◌≤◌, Bool, true, false, List, [], ◌∷◌, ◌++◌, length, Some, None, sym, refl, ap, ◌∙◌, append_assoc, append-nil, arith}
 use Rattle.lang.specs.Base.{◌>>=◌, when}
 use Rattle.lang.specs.Code.{code_proc, code_procs}
 use Rattle.lang.specs.Grammar.{is, expect, a_number, reads}
-use Rattle.lang.specs.Instr.{Instr}
 use Rattle.lang.specs.Syntax.{Proc}
 use Rattle.lang.specs.Tokens.{Token, tokens}
 use Rattle.lang.specs.declared.token.Fixed.TheVariants as the

@@ -1,7 +1,7 @@
 -- Where a reader is inside a block: the statements that it has read, and what the block stands in.
 use Rattle.std.specs.Prelude.{◌≡◌, ℕ, ◌+◌, ◌-◌, Bool, true, false, List, [], ◌∷◌, ◌++◌, length, Some}
 use Rattle.lang.specs.Base.{◌>>=◌}
-use Rattle.lang.specs.Code.{code_expr, code_bool, code_stmt, code_block}
+use Rattle.lang.specs.Code.{code_bool, code_stmt, code_block}
 use Rattle.lang.specs.Grammar.{Parsed, else_head, LoopHead}
 use Rattle.lang.specs.Instr as instr
 use Rattle.lang.specs.Instr.{Instr}

@@ -1,11 +1,9 @@
 -- Whole texts: where a reader is among the procedures, and what reading a text says.
-use Rattle.std.specs.Prelude.{◌≡◌, ℕ, ◌+◌, ◌*◌, ◌<◌, List, [], ◌∷◌, ◌++◌, map, length, Some, None, Option}
+use Rattle.std.specs.Prelude.{◌≡◌, ℕ, ◌+◌, ◌*◌, ◌<◌, List, [], ◌++◌, length, Some, None, Option}
 use Rattle.lang.specs.Base.{◌>>=◌}
 use Rattle.lang.specs.Code.{code_proc, code_procs}
 use Rattle.lang.specs.Grammar.{expect, a_number, reads}
 use Rattle.lang.specs.Holding.{Holds}
-use Rattle.lang.specs.Instr.{instr}
-use Rattle.lang.specs.declared.code.Node.{Node}
 use Rattle.lang.specs.Syntax as syntax
 use Rattle.lang.specs.Syntax.{Proc}
 use Rattle.lang.specs.Tokens.{Token}

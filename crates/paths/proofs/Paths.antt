@@ -1,7 +1,6 @@
 -- What is given on a stack, by the way.
-use Rattle.std.proofs.Common.{◌≡◌, ℕ, ◌≤◌, max, Bool, true, false, cond, not, ◌&&◌, ◌||◌, List, [], ◌∷◌, ◌++◌, sym, refl, ap, ◌∙◌, inl, inr, arith}
-use Rattle.std.proofs.lemmas.Bool.{cases_Bool, both_ways}
-use Rattle.vc.proofs.Givens.{Extends, live, all_append, live_assume, live_join}
+use Rattle.std.proofs.Common.{◌≡◌, ℕ, max, Bool, true, false, cond, not, ◌&&◌, ◌||◌, List, [], ◌∷◌, ◌++◌, sym, refl, ◌∙◌, arith}
+use Rattle.vc.proofs.Givens.{Extends, all_append, live_assume, live_join}
 use Rattle.vc.specs.Conditions.{SymState, all_true, broken_at, all_unknowns, assume, resume, guarded, added, join}
 use Rattle.vc.specs.Terms.{Formula, truth_of, formula_unknowns}
 use Rattle.paths.specs.Paths.{under, Carried, Silent, Went, no, hanging, Carrying}

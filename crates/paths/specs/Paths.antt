@@ -1,7 +1,7 @@
 -- What is given, kept on a stack: each given stands under the way on which it was found, and stays there where ways meet. So a branch
 -- costs one formula for its way, and nothing is wrapped again.
-use Rattle.std.specs.Prelude.{◌≡◌, ℕ, max, Bool, true, false, cond, not, ◌&&◌, List, [], ◌∷◌, ◌++◌}
-use Rattle.vc.specs.Conditions.{Condition, SymState, all_true, broken_at, all_unknowns, assume, resume, added, join}
+use Rattle.std.specs.Prelude.{◌≡◌, ℕ, max, true, false, not, ◌&&◌, List, [], ◌∷◌, ◌++◌}
+use Rattle.vc.specs.Conditions.{SymState, all_true, broken_at, all_unknowns, assume, resume, added, join}
 use Rattle.vc.specs.Terms.{Formula, truth_of, formula_unknowns}
 
 -- f, if it was the way p

@@ -4,7 +4,7 @@ use Rattle.std.proofs.lemmas.List.{drop_at, length-append}
 use Rattle.std.proofs.lemmas.Bool.{and_parts}
 use Rattle.lang.specs.Base.{maybe, Word}
 use Rattle.lang.specs.Soundness.{find_proc}
-use Rattle.lang.specs.Syntax.{Expr, BoolExpr, Stmt, assign, store, branch, loop, check, call, havoc, Block, end, seq, Proc}
+use Rattle.lang.specs.Syntax.{BoolExpr, Stmt, assign, store, branch, loop, check, call, havoc, Block, end, seq, Proc}
 use Rattle.vc.specs.Conditions.{SymState, all_true, assume, assert, with_current, resume, havoc_names, guarded, added, join, changed_block, Context, after_assign, after_store, after_check, branch_test, branch_end, loop_entry, loop_head, loop_test, loop_end, loop_start, call_asked, call_measured, call_promised, call_changed, after_call, walk_stmt, walk_block}
 use Rattle.vc.specs.Terms.{Formula, truth_of}
 

@@ -8,7 +8,7 @@ use Rattle.lang.specs.Soundness.{find_proc}
 use Rattle.lang.specs.Syntax.{Expr, BoolExpr, Stmt, assign, store, branch, loop, check, call, havoc, Block, end, seq, Decl, Proc, Program}
 use Rattle.vc.proofs.Givens.{Extends, extends_block, live, live_assume, live_before, live_join}
 use Rattle.vc.proofs.Twins.{TwinTerm, TwinFormula, TwinTerms, Twins, TwinEvaluated, TwinJudged, left_safe, twin_terms_itself, twins_itself, weaker_term, weaker_formula, weaker_terms, weaker_twins, twin_lengths, twin_lookup, twin_update, twin_compare, twin_stored, twin_inside, twin_negate, twin_conj, twin_expr, twin_assured, twin_bool}
-use Rattle.vc.specs.Conditions.{Condition, broken_at, all_unknowns, condition_unknowns, SymState, assume, assert, with_current, resume, unknowns, Fresh, renew, havoc_names, join_terms, join_stores, guarded, join, changed_block, Context, evaluated, judged, store_safe, after_assign, after_store, after_check, branch_test, branch_then, branch_else, branch_end, loop_entry, loop_head, loop_test, loop_body, loop_round, loop_end, loop_start, pass_terms, falls_by, call_asked, call_measured, call_promised, call_changed, after_call, walk_stmt, walk_block, fresh_params, zero_terms, proc_start, proc_end, walk_proc, proc_conditions, conditions_under, conditions}
+use Rattle.vc.specs.Conditions.{Condition, broken_at, all_unknowns, condition_unknowns, SymState, assume, assert, with_current, resume, unknowns, Fresh, renew, havoc_names, join_terms, join_stores, guarded, join, changed_block, Context, evaluated, judged, store_safe, after_assign, after_store, after_check, branch_test, branch_then, branch_else, branch_end, loop_entry, loop_head, loop_test, loop_body, loop_round, loop_end, loop_start, pass_terms, falls_by, call_asked, call_measured, call_promised, call_changed, after_call, walk_stmt, walk_block, fresh_params, zero_terms, proc_start, proc_end, walk_proc, proc_conditions, conditions_under}
 use Rattle.vc.specs.Symbolic.{Setting, Store}
 use Rattle.vc.specs.Terms.{Term, Formula, value, truth_of, term_unknowns, formula_unknowns}
 use Rattle.vc.specs.Theorem.{SameConditions, LiteralsAgree}

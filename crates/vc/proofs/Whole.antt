@@ -11,7 +11,7 @@ use Rattle.vc.proofs.Agreement.{some_injective}
 use Rattle.vc.proofs.Call.{ProcSound, Finishes, measure_at, Callees, AllSound}
 use Rattle.vc.proofs.Procedure.{finishes}
 use Rattle.vc.proofs.Running.{Scene}
-use Rattle.vc.specs.Conditions.{Condition, context, rank, walk_proc, proc_conditions, conditions_under, conditions}
+use Rattle.vc.specs.Conditions.{Condition, context, rank, walk_proc, proc_conditions, conditions_under}
 use Rattle.vc.specs.Symbolic.{Setting}
 use Rattle.vc.specs.Theorem.{AllValid, Fits, KeepsPromise, ShownHolds}
 

@@ -1,7 +1,7 @@
 -- The programs that the small texts read as.
-use Rattle.std.specs.Prelude.{◌≡◌, ℕ, List, [], ◌∷◌, Some, codes}
+use Rattle.std.specs.Prelude.{◌≡◌, ℕ, [], ◌∷◌, Some, codes}
 use Prim.Native.String.{String}
-use Rattle.lang.specs.Syntax.{Expr, num, var, old, binary, index, old_index, BoolExpr, truth, compare, conj, for_all, assign, store, branch, check, call, havoc, end, seq, Decl, Proc, Program}
+use Rattle.lang.specs.Syntax.{Expr, num, var, old, binary, index, old_index, truth, compare, conj, for_all, assign, store, branch, check, call, havoc, end, seq, Decl, Proc, Program}
 use Rattle.lang.specs.declared.syntax.ArithOp.TheVariants.{Add, Sub}
 use Rattle.lang.specs.declared.syntax.Comparison.TheVariants.{Equal, Less, AtMost}
 use Rattle.vc.specs.Worked as worked

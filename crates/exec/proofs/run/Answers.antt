@@ -1,6 +1,5 @@
-use Rattle.std.proofs.Common.{◌≡◌, suc, ◌-◌, sym, arith}
+use Rattle.std.proofs.Common.{◌≡◌, suc, ◌-◌, arith}
 use Rattle.std.proofs.lemmas.Result.{MatchResult-weaker}
-use Rattle.exec.specs.Outcomes.{Refused}
 use Rattle.exec.proofs.Whole.{started_fit, ran, ran_late}
 use Rattle.exec.proofs.run.Goals as goal
 

@@ -1,8 +1,7 @@
-use Rattle.std.proofs.Common.{◌≡◌, [], ◌++◌, map, sym, refl, ap, ◌∙◌, subst}
+use Rattle.std.proofs.Common.{[], ◌++◌, map, sym, refl, ap, ◌∙◌}
 use Rattle.std.proofs.lemmas.Result.{err_from_is_err_and}
 use Rattle.lang.specs.Code.{code_procs}
 use Rattle.lang.specs.Instr.{instr}
-use Rattle.lang.specs.Tokens.{tokens}
 use Rattle.parse.specs.Whole.{program∞}
 use Rattle.parse.proofs.Wholes.{reads_is, room_for}
 use Rattle.parse.proofs.read_into.Goals as goal

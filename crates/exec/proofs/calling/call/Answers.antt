@@ -1,7 +1,6 @@
-use Rattle.std.proofs.Common.{◌-◌, ◌^◌, ◌<◌, sym, refl, arith}
+use Rattle.std.proofs.Common.{◌-◌, ◌^◌, ◌<◌, refl, arith}
 use Rattle.walk.specs.Walking.{word}
 use Rattle.exec.specs.Framing.{stack}
-use Rattle.exec.specs.Running.{Kept}
 use Rattle.exec.proofs.Calls.{call_unsound, call_late, called_on}
 use Rattle.exec.proofs.Framing.{bottom_return}
 use Rattle.exec.proofs.Halting.{call_halts}

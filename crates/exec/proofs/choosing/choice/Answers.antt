@@ -1,4 +1,4 @@
-use Rattle.std.proofs.Common.{◌≤◌, length, get_or, drop, sym, arith, rules}
+use Rattle.std.proofs.Common.{◌≤◌, length, drop, sym, arith}
 use Rattle.std.proofs.lemmas.List.{get_or-drop, get_or_past, length-drop}
 use Rattle.exec.proofs.choosing.choice.Goals as goal
 

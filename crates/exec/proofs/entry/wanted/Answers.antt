@@ -1,7 +1,6 @@
-use Rattle.std.proofs.Common.{◌≡◌, ◌+◌, ◌^◌, ◌≤◌, sym, ap, ◌∙◌, inl, inr, arith}
+use Rattle.std.proofs.Common.{◌+◌, ◌^◌, ◌≤◌, inl, inr, arith}
 use Rattle.std.proofs.lemmas.Bool.{cases_lt}
-use Rattle.lang.specs.Meaning as meaning
-use Rattle.walk.specs.Walking.{rest, declared, decl}
+use Rattle.walk.specs.Walking.{rest, declared}
 use Rattle.eval.proofs.States.{counts_none, counts_more}
 use Rattle.eval.specs.States.{counts}
 use Rattle.exec.proofs.entry.wanted.Goals as goal

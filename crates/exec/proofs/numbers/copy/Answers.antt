@@ -1,4 +1,4 @@
-use Rattle.std.proofs.Common.{◌≡◌, ◌+◌, ◌-◌, length, arith}
+use Rattle.std.proofs.Common.{◌+◌, ◌-◌, length, arith}
 use Rattle.exec.proofs.Writing.{refilled_copy}
 use Rattle.exec.proofs.numbers.copy.Goals as goal
 

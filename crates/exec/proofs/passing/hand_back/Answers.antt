@@ -1,4 +1,3 @@
-use Rattle.std.proofs.Common.{sym, ◌∙◌}
 use Rattle.std.proofs.lemmas.Result.{MatchResult-from_err}
 use Rattle.exec.proofs.Handing.{handing_more, handing_unlike, handing_done, handing_few, handing_many}
 use Rattle.exec.proofs.passing.hand_back.Goals as goal

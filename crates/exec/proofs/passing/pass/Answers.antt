@@ -1,4 +1,4 @@
-use Rattle.std.proofs.Common.{vec_items, sym, ◌∙◌}
+use Rattle.std.proofs.Common.{sym, ◌∙◌}
 use Rattle.exec.proofs.Handing.{passing_none, passing_more, passing_done, passing_few, passing_many, passing_missing, passing_other}
 use Rattle.exec.proofs.Stopping.{handed_on}
 use Rattle.exec.proofs.passing.pass.Goals as goal

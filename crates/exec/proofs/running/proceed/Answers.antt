@@ -1,4 +1,4 @@
-use Rattle.std.proofs.Common.{◌+◌, ◌^◌, ◌∷◌, sym, refl, ap, ◌∙◌}
+use Rattle.std.proofs.Common.{◌∷◌, sym, refl, ap, ◌∙◌}
 use Rattle.exec.specs.Framing.{stack, frame_weight}
 use Rattle.exec.proofs.Driving.{kept_caller, rest_resumed, again_resumed}
 use Rattle.exec.proofs.Framing.{bottom_same, bottom_rest, bottom_again}

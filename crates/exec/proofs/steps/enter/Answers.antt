@@ -1,7 +1,6 @@
 use Rattle.std.proofs.Common.{◌-◌, ◌^◌, refl, arith}
 use Rattle.exec.specs.Framing.{stack}
 use Rattle.exec.specs.Running.{Kept}
-use Rattle.exec.specs.declared.frame.Frame.TheVariants.{Rest}
 use Rattle.exec.proofs.Framing.{bottom_rest}
 use Rattle.exec.proofs.Stepping.{pushed_fit, pushed_less, entered}
 use Rattle.exec.proofs.steps.enter.Goals as goal

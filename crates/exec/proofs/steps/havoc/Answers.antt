@@ -1,4 +1,4 @@
-use Rattle.std.proofs.Common.{◌≡◌, ◌<◌, ◌≤◌, length, vec_items, sym, refl, ap, ◌∙◌, arith}
+use Rattle.std.proofs.Common.{◌<◌, ◌≤◌, length, vec_items, sym, refl, ap, ◌∙◌, arith}
 use Rattle.walk.specs.Walking.{word}
 use Rattle.eval.proofs.States.{slot_fits, values_at, values_missing}
 use Rattle.eval.specs.States.{counts}

@@ -1,4 +1,4 @@
-use Rattle.std.proofs.Common.{◌-◌, ◌^◌, ◌<◌, refl, arith}
+use Rattle.std.proofs.Common.{◌<◌, refl, arith}
 use Rattle.exec.specs.Framing.{stack}
 use Rattle.exec.proofs.Acting.{still_fit, work_failed, worked_on}
 use Rattle.exec.proofs.Framing.{bottom_same}

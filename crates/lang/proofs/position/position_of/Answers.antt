@@ -1,6 +1,5 @@
-use Rattle.std.proofs.Common.{◌≡◌, take, sym, refl, ap, ◌∙◌, arith}
-use Rattle.lang.specs.Positions.{past, past_all, position_behind}
-use Rattle.lang.specs.declared.position.Position.{Position}
+use Rattle.std.proofs.Common.{take, sym, ap, ◌∙◌, arith}
+use Rattle.lang.specs.Positions.{position_behind}
 use Rattle.lang.proofs.Positions.{past_feed, past_other, past_more, past_end, take_min}
 use Rattle.lang.proofs.position.position_of.Goals as goal
 use Rattle.lang.proofs.position.position_of.Goals.{then-b-eq10, else-b-eq10}

@@ -1,9 +1,7 @@
-use Rattle.std.proofs.Common.{◌≡◌, List, [], None, subst, MatchOption}
+use Rattle.std.proofs.Common.{◌≡◌, None, subst, MatchOption}
 use Rattle.lang.specs.Base.{Word}
-use Rattle.lang.specs.Code.{code_procs}
 use Rattle.lang.specs.Soundness.{find_proc}
-use Rattle.lang.specs.Syntax.{Proc}
-use Rattle.walk.specs.Walking.{rest, ProcFound}
+use Rattle.walk.specs.Walking.{ProcFound}
 use Rattle.walk.proofs.procedures.find.Goals as goal
 
 pub returns : goal.returns

@@ -1,4 +1,4 @@
-use Rattle.std.proofs.Common.{◌≡◌, ◌+◌, ◌*◌, ◌/◌, ◌<◌, [], ◌∷◌, ◌++◌, length, set, refl, ap, ◌∙◌, arith, length-set}
+use Rattle.std.proofs.Common.{◌+◌, ◌*◌, ◌/◌, ◌<◌, [], ◌∷◌, ◌++◌, length, set, refl, ap, ◌∙◌, arith, length-set}
 use Rattle.lent.specs.Layout.{records}
 use Rattle.lent.proofs.Laws.{length_records, records_push}
 use Rattle.lent.proofs.table.Table.push.Goals as goal

@@ -1,4 +1,4 @@
-use Rattle.std.proofs.Common.{◌≡◌, ◌≤◌, length, sym, refl, arith}
+use Rattle.std.proofs.Common.{◌≤◌, length, sym, refl, arith}
 use Rattle.std.proofs.lemmas.List.{take_all}
 use Rattle.lent.specs.Layout.{records}
 use Rattle.lent.proofs.Laws.{length_records, records_take}

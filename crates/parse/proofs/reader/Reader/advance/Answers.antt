@@ -1,7 +1,4 @@
-use Rattle.std.proofs.Common.{◌≡◌, sym, refl, ap, ◌∙◌}
-use Rattle.lang.specs.Ahead.{ahead}
-use Rattle.lang.specs.Grammar.{onward}
-use Rattle.parse.specs.Reading.{snap, advanced}
+use Rattle.std.proofs.Common.{refl, ◌∙◌}
 use Rattle.parse.proofs.Snaps.{same_snap, behind}
 use Rattle.parse.proofs.reader.Reader.advance.Goals as goal
 

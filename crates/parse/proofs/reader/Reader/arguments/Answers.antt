@@ -1,12 +1,12 @@
-use Rattle.std.proofs.Common.{◌≡◌, true, false, [], ◌∷◌, ◌++◌, Some, sym, refl, ap, ◌∙◌, subst}
+use Rattle.std.proofs.Common.{◌≡◌, true, Some, sym, ap, ◌∙◌, subst}
 use Rattle.std.proofs.lemmas.Result.{err_from_is_err_and}
-use Rattle.lang.specs.Grammar.{starts, onward, a_name}
+use Rattle.lang.specs.Grammar.{starts, a_name}
 use Rattle.lang.specs.Instr as instr
 use Rattle.lang.specs.Instr.{name_at}
 use Rattle.lang.specs.declared.token.Fixed.TheVariants.{RightParen, Comma}
 use Rattle.lang.proofs.Codes.{one_front}
 use Rattle.parse.specs.Listed.{AtItem}
-use Rattle.parse.specs.Reading.{Snap, snap, advanced, emitted, Paid}
+use Rattle.parse.specs.Reading.{snap, advanced, emitted, Paid}
 use Rattle.parse.specs.Unbounded.{names∞}
 use Rattle.parse.proofs.Heads.{name_long, starts_long, expect_starts}
 use Rattle.parse.proofs.Listed.{no_item, next_item, last_item, no_end}

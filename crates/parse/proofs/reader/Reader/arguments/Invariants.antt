@@ -1,4 +1,4 @@
-use Rattle.std.proofs.Common.{ℕ, ◌∷◌, length}
+use Rattle.std.proofs.Common.{◌∷◌, length}
 use Rattle.lang.specs.Instr as instr
 use Rattle.parse.specs.Listed.{AtItem}
 use Rattle.parse.specs.Reading.{snap, Paid}

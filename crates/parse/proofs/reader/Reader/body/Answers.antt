@@ -1,11 +1,10 @@
-use Rattle.std.proofs.Common.{◌≡◌, ◌+◌, ◌-◌, ◌<◌, [], ◌∷◌, ◌++◌, length, Some, None, sym, refl, ap, ◌∙◌, subst, append_assoc, arith}
+use Rattle.std.proofs.Common.{[], ◌∷◌, ◌++◌, Some, sym, ap, ◌∙◌, subst, append_assoc}
 use Rattle.std.proofs.lemmas.Result.{err_from_is_err_and}
-use Rattle.std.proofs.lemmas.List.{length_push}
 use Rattle.lang.specs.Code.{code_locals}
 use Rattle.lang.specs.Instr as instr
 use Rattle.lang.specs.declared.token.Fixed.TheVariants.{LeftBrace}
 use Rattle.parse.specs.Procedures.{body∞, block_code}
-use Rattle.parse.specs.Reading.{Snap, snap, Paid, emitted}
+use Rattle.parse.specs.Reading.{snap, Paid, emitted}
 use Rattle.parse.proofs.Heads.{expect_starts}
 use Rattle.parse.proofs.Procs.{body_begins, body_room, body_paid}
 use Rattle.parse.proofs.Rooms.{room_after}

@@ -1,4 +1,4 @@
-use Rattle.std.proofs.Common.{◌≡◌, [], ◌∷◌, ◌++◌, Some, None, sym, refl, ap, ◌∙◌, subst, append_assoc}
+use Rattle.std.proofs.Common.{◌≡◌, [], ◌∷◌, ◌++◌, None, sym, ap, ◌∙◌, subst, append_assoc}
 use Rattle.std.proofs.lemmas.Result.{err_from_is_err_and}
 use Rattle.lang.specs.Code.{code_args, code_stmt}
 use Rattle.lang.specs.Grammar.{onward}
@@ -7,7 +7,7 @@ use Rattle.lang.specs.Instr.{name_at}
 use Rattle.lang.specs.Syntax.{call}
 use Rattle.lang.specs.declared.token.Fixed.TheVariants.{LeftParen}
 use Rattle.lang.proofs.Codes.{args_front}
-use Rattle.parse.specs.Reading.{Snap, snap, Read, Paid, Room, advanced, emitted}
+use Rattle.parse.specs.Reading.{snap, Read, Paid, advanced, emitted}
 use Rattle.parse.specs.Unbounded.{maybe_names∞}
 use Rattle.parse.proofs.Heads.{starts_long}
 use Rattle.parse.proofs.Plain.{paid_end, paid_begin, begun_room}

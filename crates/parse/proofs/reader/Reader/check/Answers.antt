@@ -1,4 +1,4 @@
-use Rattle.std.proofs.Common.{◌≡◌, [], ◌∷◌, ◌++◌, Some, None, sym, refl, ap, ◌∙◌, subst, append_assoc}
+use Rattle.std.proofs.Common.{◌≡◌, [], ◌∷◌, ◌++◌, None, sym, ap, ◌∙◌, subst, append_assoc}
 use Rattle.std.proofs.lemmas.Result.{err_from_is_err_and}
 use Rattle.lang.specs.Code.{code_bool, code_stmt}
 use Rattle.lang.specs.Grammar.{onward}
@@ -6,7 +6,7 @@ use Rattle.lang.specs.Instr as instr
 use Rattle.lang.specs.Syntax.{check}
 use Rattle.lang.specs.declared.token.Fixed.TheVariants.{Check}
 use Rattle.lang.proofs.Codes.{bool_front}
-use Rattle.parse.specs.Reading.{Snap, snap, Read, Paid}
+use Rattle.parse.specs.Reading.{snap, Read, Paid}
 use Rattle.parse.specs.Unbounded.{formula∞}
 use Rattle.parse.proofs.Heads.{starts_long}
 use Rattle.parse.proofs.Plain.{statement_check, paid_end}

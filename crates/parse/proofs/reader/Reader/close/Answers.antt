@@ -1,8 +1,8 @@
-use Rattle.std.proofs.Common.{◌≡◌, ◌<◌, ◌≤◌, length, sym, refl, ap, ◌∙◌, subst, arith}
+use Rattle.std.proofs.Common.{◌<◌, ◌≤◌, length, sym, ap, subst, arith}
 use Rattle.std.proofs.lemmas.Result.{err_from_is_err_and}
 use Rattle.lang.specs.declared.token.Fixed.TheVariants.{RightBrace}
 use Rattle.parse.specs.InBlock.{BlockWhole}
-use Rattle.parse.specs.Reading.{Snap, snap, Paid}
+use Rattle.parse.specs.Reading.{snap, Paid}
 use Rattle.parse.proofs.Heads.{starts_long}
 use Rattle.parse.proofs.InBlock.{brace_read, block_read}
 use Rattle.parse.proofs.Rooms.{paid_then, paid_advance}

@@ -1,11 +1,10 @@
-use Rattle.std.proofs.Common.{◌≡◌, [], ◌∷◌, length, Some, None, sym, refl, ap, ◌∙◌, subst, arith}
-use Rattle.std.proofs.lemmas.List.{length_push}
+use Rattle.std.proofs.Common.{◌≡◌, [], ◌∷◌, Some, sym, ap, ◌∙◌, subst}
 use Rattle.std.proofs.lemmas.Result.{err_from_is_err_and}
 use Rattle.lang.specs.Code.{code_size}
 use Rattle.lang.specs.Grammar.{onward, a_name}
 use Rattle.lang.specs.Instr.{scalar, name_at}
 use Rattle.parse.specs.Declaring.{sized, role_instr}
-use Rattle.parse.specs.Reading.{Snap, snap, Read, Room, Paid, advanced, emitted}
+use Rattle.parse.specs.Reading.{snap, Read, Paid, advanced, emitted}
 use Rattle.parse.proofs.Declaring.{declared, undeclared, unnamed}
 use Rattle.parse.proofs.Heads.{name_long}
 use Rattle.parse.proofs.Rooms.{paid_then, room_after, paid_two}

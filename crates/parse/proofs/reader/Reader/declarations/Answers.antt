@@ -1,10 +1,10 @@
-use Rattle.std.proofs.Common.{◌≡◌, sym, refl, ap, ◌∙◌, subst}
+use Rattle.std.proofs.Common.{sym, ap, subst}
 use Rattle.std.proofs.lemmas.Result.{err_from_is_err_and}
 use Rattle.lang.specs.Grammar.{declaration}
 use Rattle.lang.specs.declared.token.Fixed.TheVariants.{Comma}
 use Rattle.parse.specs.Declaring.{role_code}
 use Rattle.parse.specs.Listed.{AtItem}
-use Rattle.parse.specs.Reading.{Snap, snap, Paid}
+use Rattle.parse.specs.Reading.{snap, Paid}
 use Rattle.parse.specs.Unbounded.{declarations∞}
 use Rattle.parse.proofs.Declaring.{role_front}
 use Rattle.parse.proofs.Heads.{starts_long, expect_starts}

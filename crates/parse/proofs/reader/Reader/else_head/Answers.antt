@@ -1,9 +1,9 @@
-use Rattle.std.proofs.Common.{◌≡◌, Some, None, sym, refl, ap, ◌∙◌, subst}
+use Rattle.std.proofs.Common.{◌≡◌, Some, None, sym, ap, ◌∙◌, subst}
 use Rattle.std.proofs.lemmas.Result.{err_from_is_err_and}
 use Rattle.lang.specs.Grammar.{expect, else_head}
 use Rattle.lang.specs.declared.token.Fixed.TheVariants.{Else}
 use Rattle.parse.specs.InBlock.{sealed, block_opened}
-use Rattle.parse.specs.Reading.{Snap, snap, Paid, advanced}
+use Rattle.parse.specs.Reading.{snap, Paid, advanced}
 use Rattle.parse.specs.declared.statements.Kind.TheVariants as kind
 use Rattle.parse.specs.declared.statements.Kind.TheVariants.{Then}
 use Rattle.parse.proofs.Headed.{paid_patched}

@@ -1,10 +1,9 @@
-use Rattle.std.proofs.Common.{◌≡◌, ◌<◌, map, length, sym, refl, ap, ◌∙◌, arith}
+use Rattle.std.proofs.Common.{◌<◌, map, length, refl, ap, ◌∙◌, arith}
 use lib.ListN.{length-map}
 use Rattle.std.proofs.lemmas.List.{map_push}
 use Rattle.lent.specs.Tables.{items, capacity}
 use Rattle.lang.specs.Instr.{instr}
 use Rattle.lang.specs.Layout.{node}
-use Rattle.parse.specs.Reading.{snap, emitted}
 use Rattle.parse.proofs.Snaps.{same_snap, pushed}
 use Rattle.parse.proofs.reader.Reader.emit.Goals as goal
 

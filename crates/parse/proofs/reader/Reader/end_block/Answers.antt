@@ -1,9 +1,9 @@
-use Rattle.std.proofs.Common.{◌≡◌, ℕ, ◌<◌, ◌≤◌, length, Some, None, sym, refl, ap, ◌∙◌, subst, arith}
+use Rattle.std.proofs.Common.{◌≡◌, ℕ, ◌<◌, length, Some, None, sym, ap, ◌∙◌, subst, arith}
 use Rattle.std.proofs.lemmas.Result.{err_from_is_err_and}
 use Rattle.lang.specs.Grammar.{onward, else_head}
 use Rattle.lang.specs.Instr as instr
 use Rattle.parse.specs.InBlock.{AtStatement, sealed, block_opened}
-use Rattle.parse.specs.Reading.{Snap, snap, Paid, closed, advanced, emitted}
+use Rattle.parse.specs.Reading.{snap, Paid, closed, advanced, emitted}
 use Rattle.parse.specs.declared.open.Open.TheVariants.{Then, Else, Do}
 use Rattle.parse.specs.declared.statements.Kind.TheVariants as kind
 use Rattle.parse.proofs.Heads.{onward_short}

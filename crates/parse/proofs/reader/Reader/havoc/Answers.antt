@@ -1,4 +1,4 @@
-use Rattle.std.proofs.Common.{◌≡◌, [], ◌∷◌, ◌++◌, Some, None, sym, refl, ap, ◌∙◌, subst, append_assoc}
+use Rattle.std.proofs.Common.{◌≡◌, Some, None, sym, ap, ◌∙◌, subst}
 use Rattle.std.proofs.lemmas.Result.{err_from_is_err_and}
 use Rattle.lang.specs.Code.{code_stmt}
 use Rattle.lang.specs.Grammar.{onward, expect, a_name}
@@ -6,7 +6,7 @@ use Rattle.lang.specs.Instr as instr
 use Rattle.lang.specs.Instr.{name_at}
 use Rattle.lang.specs.Syntax.{havoc}
 use Rattle.lang.specs.declared.token.Fixed.TheVariants.{Any, Semicolon}
-use Rattle.parse.specs.Reading.{Snap, snap, Paid, advanced, emitted}
+use Rattle.parse.specs.Reading.{snap, Paid, advanced, emitted}
 use Rattle.parse.proofs.Heads.{starts_long, name_long}
 use Rattle.parse.proofs.Plain.{statement_any, paid_end}
 use Rattle.parse.proofs.Rooms.{paid_then, paid_advance}

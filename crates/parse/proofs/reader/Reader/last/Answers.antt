@@ -1,4 +1,4 @@
-use Rattle.std.proofs.Common.{◌≡◌, ◌-◌, ◌≤◌, length, sym, arith}
+use Rattle.std.proofs.Common.{◌-◌, ◌≤◌, length, sym, arith}
 use Rattle.std.proofs.lemmas.Option.{slice_get_past}
 use Rattle.lent.specs.Tables.{items}
 use Rattle.parse.specs.Layout.{open_part}

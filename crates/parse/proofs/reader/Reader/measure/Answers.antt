@@ -1,8 +1,8 @@
-use Rattle.std.proofs.Common.{◌≡◌, ◌+◌, ◌-◌, [], length, sym, refl, ap, ◌∙◌, subst, arith}
+use Rattle.std.proofs.Common.{◌≡◌, ◌+◌, ◌-◌, [], length, sym, ap, ◌∙◌, subst, arith}
 use Rattle.std.proofs.lemmas.List.{length_push}
 use Rattle.lang.specs.Code.{code_expr}
-use Rattle.lang.specs.Instr.{instr, measure}
-use Rattle.parse.specs.Reading.{Snap, snap, Read, Paid, emitted, patched}
+use Rattle.lang.specs.Instr.{measure}
+use Rattle.parse.specs.Reading.{snap, Read, Paid, emitted, patched}
 use Rattle.parse.specs.Unbounded.{sum∞}
 use Rattle.parse.proofs.Headed.{headed, paid_patched}
 use Rattle.parse.proofs.reader.Reader.measure.Goals as goal

@@ -1,12 +1,9 @@
-use Rattle.std.proofs.Common.{◌≡◌, ◌<◌, length, Some, None, sym, refl, ap, ◌∙◌, subst₂, arith}
+use Rattle.std.proofs.Common.{◌≡◌, ◌<◌, length, Some, None, sym, ap, ◌∙◌, subst₂, arith}
 use Rattle.std.proofs.lemmas.Result.{err_from_is_err_and}
-use Rattle.lang.specs.Base.{◌>>=◌}
-use Rattle.lang.specs.Code.{code_expr}
 use Rattle.lang.specs.Grammar.{onward, a_name}
 use Rattle.lang.specs.Instr as instr
 use Rattle.lang.specs.Instr.{name_at}
-use Rattle.lang.specs.Syntax.{old}
-use Rattle.parse.specs.InExpr.{InExpr, Used, old_row, behind_name, name_step}
+use Rattle.parse.specs.InExpr.{InExpr, Used, behind_name, name_step}
 use Rattle.parse.specs.Reading.{snap, advanced}
 use Rattle.parse.specs.declared.open.Open.TheVariants.{OldIndex}
 use Rattle.lang.specs.declared.token.Fixed.TheVariants.{Old}

@@ -1,8 +1,7 @@
-use Rattle.std.proofs.Common.{◌≡◌, ◌<◌, length, Some, sym, refl, ap, ◌∙◌, subst, arith}
-use Rattle.lang.specs.Grammar.{expect}
+use Rattle.std.proofs.Common.{◌≡◌, length, Some, sym, ap, ◌∙◌, subst, arith}
 use Rattle.lang.specs.declared.token.Fixed.TheVariants.{LeftBrace}
 use Rattle.parse.specs.InBlock.{kind_instr, kind_part, block_opened}
-use Rattle.parse.specs.Reading.{Snap, snap, Paid, advanced, emitted, opened}
+use Rattle.parse.specs.Reading.{snap, Paid, advanced, emitted, opened}
 use Rattle.parse.proofs.Heads.{expect_starts}
 use Rattle.parse.proofs.InBlock.{opened_paid}
 use Rattle.parse.proofs.reader.Reader.open_block.Goals as goal

@@ -1,14 +1,14 @@
-use Rattle.std.proofs.Common.{◌≡◌, ℕ, ◌<◌, ◌∷◌, length, drop, None, sym, refl, ap, ◌∙◌, subst, subst₂, arith}
+use Rattle.std.proofs.Common.{◌≡◌, ◌<◌, ◌∷◌, length, drop, None, sym, ap, ◌∙◌, subst, subst₂, arith}
 use Rattle.lang.specs.declared.code.Place.{Place}
-use Rattle.lang.specs.Ahead.{ahead, ahead_by}
+use Rattle.lang.specs.Ahead.{ahead_by}
 use Rattle.lang.specs.Grammar.{onward, a_name, a_number}
 use Rattle.lang.specs.Instr as instr
 use Rattle.lang.specs.Instr.{name_at, number_at}
 use Rattle.lang.specs.Tokens.{tokens, number, name}
 use Rattle.parse.specs.InExpr.{AtOperand, BehindAtom, InExpr, Used, behind_name, name_step}
-use Rattle.parse.specs.Reading.{Snap, snap, advanced, emitted, opened}
+use Rattle.parse.specs.Reading.{snap, advanced}
 use Rattle.parse.specs.declared.expression.Step.TheVariants.{Operand, Atom}
-use Rattle.parse.specs.declared.open.Open.TheVariants.{Paren, Index}
+use Rattle.parse.specs.declared.open.Open.TheVariants.{Index}
 use Rattle.parse.proofs.InExpr.{paren_reads, paren_used, number_reads, number_used, name_reads, named_used, no_operand}
 use Rattle.parse.proofs.reader.Reader.operand.Goals as goal
 

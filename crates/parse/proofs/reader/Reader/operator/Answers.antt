@@ -1,10 +1,10 @@
-use Rattle.std.proofs.Common.{◌≡◌, ◌<◌, ◌≤◌, true, false, length, Some, None, sym, refl, ap, ◌∙◌, subst, arith}
+use Rattle.std.proofs.Common.{◌≡◌, ◌<◌, ◌≤◌, true, length, Some, sym, ap, ◌∙◌, subst, arith}
 use Rattle.std.proofs.lemmas.Result.{IfOk-weaker}
 use Rattle.lang.specs.Grammar.{additive, multiplicative}
 use Rattle.lang.specs.declared.code.Place.{Place}
 use Rattle.parse.specs.InExpr.{AtOperand, Used}
-use Rattle.parse.specs.Reading.{Snap, snap, advanced, opened, Paid}
-use Rattle.parse.specs.declared.expression.Step.TheVariants.{Operand, Done}
+use Rattle.parse.specs.Reading.{snap, advanced, opened}
+use Rattle.parse.specs.declared.expression.Step.TheVariants.{Operand}
 use Rattle.parse.specs.declared.open.Open.TheVariants.{Operator}
 use Rattle.parse.proofs.InExpr.{lone_atom, lone_sum, times, plus, sum_ends, whole, completed_ahead, both_ahead, used_after, done_used, operator_used, multiplicative_tight, additive_loose}
 use Rattle.parse.proofs.Rooms.{paid_then}

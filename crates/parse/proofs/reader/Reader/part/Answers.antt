@@ -1,8 +1,7 @@
-use Rattle.std.proofs.Common.{◌≡◌, ◌+◌, ◌-◌, [], length, sym, refl, ap, ◌∙◌, subst, arith}
+use Rattle.std.proofs.Common.{◌≡◌, ◌+◌, ◌-◌, [], length, sym, ap, ◌∙◌, subst, arith}
 use Rattle.std.proofs.lemmas.List.{length_push}
 use Rattle.lang.specs.Code.{code_bool}
-use Rattle.lang.specs.Instr.{instr}
-use Rattle.parse.specs.Reading.{Snap, snap, Read, Paid, emitted, patched}
+use Rattle.parse.specs.Reading.{snap, Read, Paid, emitted, patched}
 use Rattle.parse.specs.Parts.{part_instr}
 use Rattle.parse.specs.Unbounded.{formula∞}
 use Rattle.parse.proofs.Headed.{headed, paid_patched}

@@ -1,8 +1,7 @@
-use Rattle.std.proofs.Common.{◌≡◌, ◌+◌, ◌-◌, length, sym, refl, ap, ◌∙◌, subst}
+use Rattle.std.proofs.Common.{◌≡◌, ◌+◌, ◌-◌, length, sym, ap, ◌∙◌, subst}
 use Rattle.std.proofs.lemmas.Result.{err_from_is_err_and}
-use Rattle.lang.specs.Code.{code_proc}
 use Rattle.lang.specs.Instr as instr
-use Rattle.parse.specs.Reading.{Snap, snap, Read, Paid, patched}
+use Rattle.parse.specs.Reading.{snap, Read, Paid, patched}
 use Rattle.parse.specs.Unbounded.{procedure∞}
 use Rattle.parse.proofs.Headed.{paid_patched}
 use Rattle.parse.proofs.Procs.{procedure_parts, procedure_read}

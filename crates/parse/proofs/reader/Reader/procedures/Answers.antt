@@ -1,12 +1,10 @@
-use Rattle.std.proofs.Common.{◌≡◌, [], sym, refl, ap, ◌∙◌, subst}
+use Rattle.std.proofs.Common.{sym, ap, subst}
 use Rattle.std.proofs.lemmas.Result.{err_from_is_err_and}
 use Rattle.lang.specs.Ahead.{ahead_by}
 use Rattle.lang.specs.declared.token.Fixed.TheVariants.{Proc}
-use Rattle.parse.specs.Reading.{Snap, snap, Paid}
+use Rattle.parse.specs.Reading.{snap, Paid}
 use Rattle.parse.proofs.Heads.{expect_starts}
-use Rattle.parse.proofs.Lessening.{procedure∞-shorter}
 use Rattle.parse.proofs.Rooms.{paid_then, paid_advance, room_after}
-use Rattle.parse.proofs.Shorter.{each_at}
 use Rattle.parse.proofs.Snaps.{some_ahead}
 use Rattle.parse.proofs.Wholes.{all_read, no_procedure, unread_procedure, next_procedure}
 use Rattle.parse.proofs.reader.Reader.procedures.Goals as goal

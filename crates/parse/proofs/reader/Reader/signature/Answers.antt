@@ -1,4 +1,4 @@
-use Rattle.std.proofs.Common.{◌≡◌, ◌<◌, [], ◌∷◌, ◌++◌, length, Some, None, sym, refl, ap, ◌∙◌, subst, append_assoc}
+use Rattle.std.proofs.Common.{◌≡◌, ◌<◌, [], ◌∷◌, ◌++◌, length, Some, None, sym, ap, ◌∙◌, subst, append_assoc}
 use Rattle.std.proofs.lemmas.List.{length_push}
 use Rattle.std.proofs.lemmas.Result.{err_from_is_err_and}
 use Rattle.lang.specs.Code.{code_params}
@@ -7,7 +7,7 @@ use Rattle.lang.specs.Instr as instr
 use Rattle.lang.specs.Instr.{name_at}
 use Rattle.lang.specs.declared.token.Fixed.TheVariants.{LeftParen}
 use Rattle.parse.specs.Procedures.{signature∞}
-use Rattle.parse.specs.Reading.{Snap, snap, Paid, advanced, emitted}
+use Rattle.parse.specs.Reading.{snap, Paid, advanced, emitted}
 use Rattle.parse.proofs.Heads.{name_long, expect_starts}
 use Rattle.parse.proofs.Rooms.{paid_then, paid_two, paid_advance, room_after, room_one}
 use Rattle.parse.proofs.reader.Reader.signature.Goals as goal

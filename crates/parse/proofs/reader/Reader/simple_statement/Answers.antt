@@ -1,11 +1,11 @@
-use Rattle.std.proofs.Common.{◌≡◌, ◌+◌, [], ◌∷◌, length, drop, None, sym, refl, ap, ◌∙◌, subst, arith}
+use Rattle.std.proofs.Common.{◌≡◌, ◌+◌, [], ◌∷◌, length, drop, None, sym, ap, ◌∙◌, subst, arith}
 use Rattle.std.proofs.lemmas.Result.{err_from_is_err_and}
 use Rattle.lang.specs.Ahead.{ahead_by}
 use Rattle.lang.specs.Code.{code_stmt}
 use Rattle.lang.specs.Grammar.{onward, a_name}
 use Rattle.lang.specs.Instr.{name_at}
 use Rattle.lang.specs.Tokens.{tokens, name}
-use Rattle.parse.specs.Reading.{Snap, snap, Read, Paid, advanced}
+use Rattle.parse.specs.Reading.{snap, Read, Paid, advanced}
 use Rattle.parse.specs.Unbounded.{named_statement∞}
 use Rattle.parse.proofs.Plain.{no_statement, named_read, named_unread}
 use Rattle.parse.proofs.Rooms.{paid_then, paid_advance}

@@ -1,4 +1,4 @@
-use Rattle.std.proofs.Common.{◌≡◌, ◌<◌, true, false, eqb, [], ◌∷◌, length, Some, None, sym, refl, ap, ◌∙◌, subst, arith}
+use Rattle.std.proofs.Common.{◌≡◌, true, false, eqb, [], ◌∷◌, length, Some, sym, ap, ◌∙◌, subst, arith}
 use Rattle.std.proofs.lemmas.List.{length_push}
 use Rattle.std.proofs.lemmas.Bool.{ne_eqb}
 use Rattle.lang.specs.Code.{code_size}
@@ -6,7 +6,7 @@ use Rattle.lang.specs.Grammar.{starts, onward, expect, a_number}
 use Rattle.lang.specs.Instr.{scalar, row, number_at}
 use Rattle.lang.specs.declared.token.Fixed.TheVariants.{LeftBracket, RightBracket}
 use Rattle.parse.specs.Declaring.{sized}
-use Rattle.parse.specs.Reading.{Snap, snap, Read, Paid, advanced, emitted}
+use Rattle.parse.specs.Reading.{snap, Read, Paid, advanced, emitted}
 use Rattle.parse.proofs.Declaring.{sized_number, sized_row}
 use Rattle.parse.proofs.Heads.{starts_long, number_long, expect_starts}
 use Rattle.parse.proofs.Rooms.{paid_none, paid_row}

@@ -1,8 +1,8 @@
-use Rattle.std.proofs.Common.{◌≡◌, ◌+◌, ◌-◌, [], length, sym, refl, ap, ◌∙◌, subst, arith}
+use Rattle.std.proofs.Common.{◌≡◌, ◌+◌, ◌-◌, [], length, sym, ap, ◌∙◌, subst, arith}
 use Rattle.std.proofs.lemmas.List.{length_push}
 use Rattle.lang.specs.Code.{code_block}
-use Rattle.lang.specs.Instr.{instr, body}
-use Rattle.parse.specs.Reading.{Snap, snap, Read, Paid, emitted, patched}
+use Rattle.lang.specs.Instr.{body}
+use Rattle.parse.specs.Reading.{snap, Read, Paid, emitted, patched}
 use Rattle.parse.specs.Unbounded.{block∞}
 use Rattle.parse.proofs.Headed.{headed, paid_patched}
 use Rattle.parse.proofs.reader.Reader.statements.Goals as goal

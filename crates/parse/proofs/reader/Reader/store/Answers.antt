@@ -1,4 +1,4 @@
-use Rattle.std.proofs.Common.{◌≡◌, [], ◌∷◌, ◌++◌, Some, None, sym, refl, ap, ◌∙◌, subst, append_assoc}
+use Rattle.std.proofs.Common.{◌≡◌, [], None, sym, ap, ◌∙◌, subst}
 use Rattle.std.proofs.lemmas.Result.{err_from_is_err_and}
 use Rattle.lang.specs.Code.{code_expr, code_stmt}
 use Rattle.lang.specs.Grammar.{onward}
@@ -6,8 +6,7 @@ use Rattle.lang.specs.Instr as instr
 use Rattle.lang.specs.Instr.{name_at}
 use Rattle.lang.specs.Syntax.{store}
 use Rattle.lang.specs.declared.token.Fixed.TheVariants.{LeftBracket, RightBracket, Gets}
-use Rattle.lang.proofs.Codes.{expr_front}
-use Rattle.parse.specs.Reading.{Snap, snap, Read, Paid}
+use Rattle.parse.specs.Reading.{snap, Read, Paid}
 use Rattle.parse.specs.Unbounded.{sum∞}
 use Rattle.parse.proofs.Heads.{starts_long, expect_starts}
 use Rattle.parse.proofs.Plain.{paid_end, two_exprs}

@@ -1,10 +1,10 @@
-use Rattle.std.proofs.Common.{◌≡◌, [], None, sym, refl, ap, ◌∙◌, subst}
+use Rattle.std.proofs.Common.{◌≡◌, None, sym, ap, ◌∙◌, subst}
 use Rattle.std.proofs.lemmas.Result.{err_from_is_err_and}
 use Rattle.lang.specs.Grammar.{onward}
 use Rattle.lang.specs.Instr as instr
 use Rattle.lang.specs.declared.token.Fixed.TheVariants.{While}
 use Rattle.parse.specs.Parts.{part_code}
-use Rattle.parse.specs.Reading.{Snap, snap, Read, Paid, advanced, emitted}
+use Rattle.parse.specs.Reading.{snap, Read, Paid, advanced, emitted}
 use Rattle.parse.specs.Unbounded.{formula∞}
 use Rattle.parse.specs.declared.parts.Part.TheVariants.{Test}
 use Rattle.parse.proofs.Heads.{starts_long}
