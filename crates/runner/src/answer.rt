@@ -139,7 +139,7 @@ fn words_for(bytes: usize) -> usize {
 }
 
 // Reads the text of the file that is asked for, and runs the procedure.
-pub fn answer(
+pub fn answer_to(
     heap: Global,
     request: &Request,
     file: &str,

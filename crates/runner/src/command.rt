@@ -1,5 +1,5 @@
 // The whole command, from its words.
-use crate::answer::{Answer, answer, refused};
+use crate::answer::{Answer, answer_to, refused};
 use crate::request::{HELP, Request, Stop, requested};
 use std::fs;
 
@@ -12,7 +12,7 @@ fn run_file(rt: &HostRuntime, request: &Request) -> Result<Answer, Stop> {
         return refused(String::from_str(heap, "expected PROC NUMBER.. behind FILE, or --help")?);
     };
     match fs::read(rt, file.as_str()) {
-        Ok(text) => answer(heap, request, file.as_str(), name.as_str(), &text),
+        Ok(text) => answer_to(heap, request, file.as_str(), name.as_str(), &text),
         Err(e) => refused(format!(in heap; "{file}: {e}")?),
     }
 }
