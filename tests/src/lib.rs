@@ -8,9 +8,9 @@ pub fn root() -> PathBuf {
     Path::new(env!("CARGO_MANIFEST_DIR")).parent().unwrap().to_path_buf()
 }
 
-/// A program that the gate has built.
+/// A program of the repository, as `rt run` leaves it.
 pub fn program(name: &str) -> PathBuf {
-    root().join("target/bin").join(name)
+    root().join("crates").join(name).join("out").join(name)
 }
 
 /// A folder of its own for one test, emptied first.
