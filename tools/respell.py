@@ -3,8 +3,8 @@
 
 usage: python3 tools/respell.py [FOLDER]     FOLDER: a checkout (default: this one); files are rewritten in place
 
-A name is own if an .antt file of crates/ declares it. Names that the check makes (goals, branches, steps) and names
-of the library keep their spelling, and so do Rust's functions, strings and comments of .rt files.
+A name is own if an .antt file of crates/ declares it, or binds it in a lemma. Names that the check makes (goals,
+branches, steps) and names of the library keep their spelling, and so do Rust's functions, strings and comments of .rt files.
 """
 import os
 import re
@@ -69,6 +69,19 @@ def of_library(root):
     return taken
 
 
+def bound(path, text, kept):
+    """Names that a lemma or an answer binds: in a file of lemmas all that are left, in one of answers those after `let`."""
+    if not path.endswith(".antt") or os.sep + "proofs" + os.sep not in path:
+        return set()
+    body = "\n".join(l for l in text.split("\n") if not l.startswith("use "))
+    if os.path.basename(os.path.dirname(path)) == "proofs":
+        names = {m.group(1) for m in HYPHENATED.finditer(body) if body[max(0, m.start() - 1)] != "."}
+    else:
+        names = set(re.findall(r"\blet (%s(?:-%s)+)(?![\w'-])" % (PART, PART), body))
+    imported = set(re.findall(r"[^\s{},]+", "\n".join(l for l in text.split("\n") if l.startswith("use "))))
+    return names - kept - imported
+
+
 def main():
     own, fields = declared(ROOT)
     taken = of_library(ROOT)
@@ -90,15 +103,18 @@ def main():
 
     count = 0
 
-    def turn(text, kept, aliases):
+    def turn(text, kept, aliases, local=frozenset()):
         nonlocal count
 
         def one(m):
             nonlocal count
             n = m.group(1)
+            before = text[m.start() - 1] if m.start() else " "
+            if n in local and before != ".":
+                count += 1
+                return spelled(n)
             if n not in own or n in kept:
                 return n
-            before = text[m.start() - 1] if m.start() else " "
             if before == "." and n not in fields and re.search(r"(?:^|[^\w'-])(?:[a-z][\w'-]*\.)+$", text[max(0, m.start() - 80):m.start()]):
                 head = re.search(r"([\w'-]+)\.$", text[:m.start()])
                 if head and head.group(1) in aliases:
@@ -119,7 +135,7 @@ def main():
                 l if l.lstrip().startswith("//") else "".join(p if i % 2 else turn(p, kept, aliases) for i, p in enumerate(re.split(r'("(?:[^"\\]|\\.)*")', l)))
                 for l in old.split("\n"))
         else:
-            new = turn(old, kept, aliases)
+            new = turn(old, kept, aliases, bound(path, old, kept))
         if new != old:
             with open(path, "w", encoding="utf-8") as f:
                 f.write(new)

@@ -75,10 +75,10 @@ module _ (held : lent.Program) (p : Program) (q : Proc) (k : List Instr) (o : Ou
 
   pub procedure_is : (n head body r : ℕ) → n ≡ min (size_decls (declared (rest held o.params) ++ declared (rest held o.locals))) most → head ≡ min (weighed no_calls 0 1 (level 1) (rest held o.head)) most → body ≡ min (weighed (call_size p n) n 2 (level 1) (rest held o.body)) most → r ≡ min (min (n + head) most + body) most → r ≡ min (size_proc p q) most
   unfolding size_proc
-  procedure_is n head body r is-n is-head is_IsBody is-r =
-      let names = is-n ∙ names_are in
+  procedure_is n head body r is_n is_head is_body is_r =
+      let names = is_n ∙ names_are in
       let block : size_block p n q.body ≡ size_block p (size_decls (scope q)) q.body = ap (λ m. size_block p m q.body) names in
-      omega (arith, names, block, head_is 1, body_is n, is-head, is_IsBody, is-r)
+      omega (arith, names, block, head_is 1, body_is n, is_head, is_body, is_r)
 
 found_in : (P : Proc → Bool) (qs : List Proc) (x : Word) (q : Proc) → all_of P qs ≡ true → find_proc qs x ≡ Some q → P q ≡ true
 unfolding find_proc
@@ -120,7 +120,7 @@ module _ (p : Program) (t : ℕ) (k : List Instr) (left : Weighs p k t) where
 
     pub weighs_more : (a u : ℕ) (j : List Instr) → a ≡ min (size_proc p q) most → u ≡ min (t + a) most → j ≡ code_procs qs [] → Weighs p j u
     unfolding size_procs
-    weighs_more a u j is-a is-u behind = record {
+    weighs_more a u j is_a is_u behind = record {
       procs = qs;
       code = behind;
       sound = (and_parts (sound_proc p q) _ (ap (all_of (sound_proc p)) (sym e) ∙ left.sound)).1;

@@ -47,5 +47,5 @@ module _ (g : Word → ℕ) (n m : ℕ) (s : Factors) where
 
     -- t: what was weighed before the instruction, u: with it
     pub weighed_more : (t u v : ℕ) (r : Factors) → r ≡ turned m s (load i) → u ≡ min (t + ((r.now * counted (load i) + added n (load i)) + called g (load i))) most → min (t + weighed g n m s j) most ≡ v → min (u + weighed g n m r k) most ≡ v
-    weighed_more t u v r is-r is-u so_far =
-        rw (is-u, is-r) (join t _ (called g (load i)) (weighed g n m (turned m s (load i)) k) v (ap (λ z. min (t + z) most) (sym step) ∙ so_far))
+    weighed_more t u v r is_r is_u so_far =
+        rw (is_u, is_r) (join t _ (called g (load i)) (weighed g n m (turned m s (load i)) k) v (ap (λ z. min (t + z) most) (sym step) ∙ so_far))

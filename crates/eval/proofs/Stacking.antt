@@ -26,5 +26,5 @@ module _ {T : Type 0} where
   none_popped xs ys n e f g =
       let zero : n - 1 ≡ 0 = omega arith in
       let none : ys ≡ [] = g ∙ ap (λ m. take m xs) zero in
-      let all-gone : xs ≡ [] = f ∙ rw none in
-      record { value = rw all-gone; others = rw (all-gone, none) }
+      let all_gone : xs ≡ [] = f ∙ rw none in
+      record { value = rw all_gone; others = rw (all_gone, none) }

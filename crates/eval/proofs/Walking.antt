@@ -47,15 +47,15 @@ begins_so (all x n a) k = refl
 -- where an `all` ends
 module _ (held : Program) (next : ℕ) where
   pub all_ends : (at body end r size : ℕ) → at ≡ min (next + 1) (length (code_of held)) → size ≡ length_of (kind (first (rest held at))) → body ≡ min (next + 2) (length (code_of held)) → end ≡ min (body + size) (length (code_of held)) → r ≡ min (end + 1) (length (code_of held)) → AllEnd held next r
-  all_ends at body end r size is_at is-size is_IsBody is_end is-r =
+  all_ends at body end r size is_at is_size is_body is_end is_r =
       record {
         onward = λ h. omega arith;
         is = λ m a k e.
             let at_length = skipped (code_of held) next at _ e 1 is_at in
-            let long : size ≡ length (code_bool a []) = is-size ∙ ap (λ c. length_of (kind (first c))) at_length in
-            let at_body = skipped (code_of held) next body _ e 2 is_IsBody in
+            let long : size ≡ length (code_bool a []) = is_size ∙ ap (λ c. length_of (kind (first c))) at_length in
+            let at_body = skipped (code_of held) next body _ e 2 is_body in
             let at_end = skipped (code_of held) body end _ at_body (length (code_bool a [])) (rw long at is_end) ∙ behind_part (code_bool a) (instr.end_all ∷ k) (bool_front a) in
-            skipped (code_of held) end r _ at_end 1 is-r;
+            skipped (code_of held) end r _ at_end 1 is_r;
       }
 
 module _ (n : Names) (cs : Counters) where
@@ -67,17 +67,17 @@ module _ (n : Names) (cs : Counters) where
         let z : ◌≡◌ {A = ℕ} 0 1 = cc in
         omega arith
 
-    module _ (x : Word) (named : Some x ≡ counter_name (kind i)) (many body r : ℕ) (is-many : many ≡ limit_of (kind (first (rest n.program.now next)))) (is_IsBody : body ≡ min (next + 2) (length (code_of n.program.now))) (value : Option Bool) (mid : Stacks) (counted : Counted n cs x many body value before mid) (pushed : after ≡ push_truth value mid) (ends : AllEnd n.program.now next r) where
+    module _ (x : Word) (named : Some x ≡ counter_name (kind i)) (many body r : ℕ) (is_many : many ≡ limit_of (kind (first (rest n.program.now next)))) (is_body : body ≡ min (next + 2) (length (code_of n.program.now))) (value : Option Bool) (mid : Stacks) (counted : Counted n cs x many body value before mid) (pushed : after ≡ push_truth value mid) (ends : AllEnd n.program.now next r) where
       all_step : (y : Word) (m : ℕ) (a : BoolExpr) (k : List Instr) → i ∷ rest n.program.now next ≡ code_op (all y m a) k → depth cs + suc (nesting a) ≤ 2 → n.program.now.width ≤ 64 → (rest n.program.now r ≡ k) × (after ≡ apply n.program.now.width (inside n cs) (state_old n) (all y m a) before)
       all_step y m a k e nested wide =
           let code = code_of n.program.now in
           let behind : rest n.program.now next ≡ code_all m a k = ap (drop 1) e in
           let some : Some x ≡ Some y = named ∙ ap (λ c. counter_name (kind (first c))) e in
           let same_name : x ≡ y = cc in
-          let same-limit : many ≡ m = is-many ∙ ap (λ c. limit_of (kind (first c))) behind in
-          let at_body = skipped code next body _ behind 2 is_IsBody in
+          let same_limit : many ≡ m = is_many ∙ ap (λ c. limit_of (kind (first c))) behind in
+          let at_body = skipped code next body _ behind 2 is_body in
           let says = counted.is a k at_body nested wide in
-          (ends.is m a k behind, rw (pushed, says.0, says.1, same_name, same-limit))
+          (ends.is m a k behind, rw (pushed, says.0, says.1, same_name, same_limit))
 
       pub counted_step : Stepped n cs i next r before after
       counted_step =
@@ -167,7 +167,7 @@ module _ (n : Names) (cs : Counters) (c : Counter) (body : ℕ) (st before : Sta
   counter = word n.program.now c.name
 
   -- one round
-  module _ (inner : Counters) (deeper : Deeper n.program.now cs c inner) (r : ℕ) (st₁ st₂ : Stacks) (walked : Walked n inner body r st st₁) (t : Option Bool) (is-top : t ≡ top st₁.truths) (popped : st₂ ≡ pop_truth st₁) where
+  module _ (inner : Counters) (deeper : Deeper n.program.now cs c inner) (r : ℕ) (st₁ st₂ : Stacks) (walked : Walked n inner body r st st₁) (t : Option Bool) (is_top : t ≡ top st₁.truths) (popped : st₂ ≡ pop_truth st₁) where
     round : (a : BoolExpr) (k : List Instr) → rest n.program.now body ≡ code_bool a (instr.end_all ∷ k) → depth cs + suc (nesting a) ≤ 2 → n.program.now.width ≤ 64 → (t ≡ holds n.program.now.width (bind (inside n cs) counter c.value) (state_old n) a) × (st₂ ≡ st)
     unfolding code_ops apply_all ops_nesting
     round a k here nested wide =
@@ -175,15 +175,15 @@ module _ (n : Names) (cs : Counters) (c : Counter) (body : ℕ) (st before : Sta
         let deep : depth inner ≡ suc (depth cs) = deeper.depth_is in
         let reached = walked.is (ops_bool a []) instr.end_all k (here ∙ sym (code_ops_bool a [] (instr.end_all ∷ k))) refl (omega (arith, nesting_bool a [])) wide in
         let left : st₁ ≡ push_truth (holds w (bind (inside n cs) counter c.value) (state_old n) a) st = reached.stacks ∙ apply_bool w (state_old n) (inside n inner) a [] st ∙ ap (λ s. push_truth (holds w s (state_old n) a) st) (deeper.state_is (state_now n)) in
-        (is-top ∙ ap (λ s. top s.truths) left, popped ∙ ap pop_truth left)
+        (is_top ∙ ap (λ s. top s.truths) left, popped ∙ ap pop_truth left)
 
     pub round_true : unwrap_or t false ≡ true → SoFar n cs counter body (c.value + 1) st₂ before
-    round_true true-now =
+    round_true true_now =
         record {
           is = λ a k here nested wide.
               let done = so_far.is a k here nested wide in
               let this = round a k here nested wide in
-              (one_more _ c.value done.0 ∙ sym this.0 ∙ is_some_true t true-now, this.1 ∙ done.1);
+              (one_more _ c.value done.0 ∙ sym this.0 ∙ is_some_true t true_now, this.1 ∙ done.1);
         }
 
     pub round_other : (many : ℕ) → c.value < many → unwrap_or t false ≡ false → Counted n cs counter many body t before st₂

@@ -16,14 +16,14 @@ both held params locals = declared (rest held params) ++ declared (rest held loc
 
 -- the numbers now, and those with which the procedure began
 abbrev pub state_now : Names → State
-state_now n = state_of (both n.program.now n.params n.locals) n.«now».now
+state_now n = state_of (both n.program.now n.params n.locals) n.now.now
 
 abbrev pub state_old : Names → State
 state_old n = state_of (declared (rest n.program.now n.params)) n.old.now
 
 -- as many numbers as are declared
 pub record Sized (n : Names) : Type 0 where
-  pub current : length n.«now».now ≡ counts (both n.program.now n.params n.locals)
+  pub current : length n.now.now ≡ counts (both n.program.now n.params n.locals)
   pub initial : length n.old.now ≡ counts (declared (rest n.program.now n.params))
 
 -- the state with the counters of `all` in front, the innermost first

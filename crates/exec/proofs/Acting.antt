@@ -132,27 +132,27 @@ module _ (held : Program) (cs : List ℕ) (m : Machine) (p : syntax.Program) (ho
     done_by = simple.acts (u - 1) (u - 2) (old_state held m.running) (run_of held cs m) (omega arith) ∙ rw (reached.0, reached.1) refl
 
   work_fails : (fs : List formal.Frame) {ss : syntax.Block} → Ahead works ss → act_on (action (first (rest held till))) st (now_state held m.running) ≡ None → BlockAt held p (names held m.running) (params held m.running) at ss → resume p (old_state held m.running) fs (exec_block u p (old_state held m.running) ss (run_of held cs m)) ≡ v → v ≡ failed
-  work_fails fs (work {s} {ss} w) none-acted blk g =
+  work_fails fs (work {s} {ss} w) none_acted blk g =
       let ds = names held m.running in
       let os = params held m.running in
       let simple = simple_of p ds os w (first_sound held p ds os at s ss blk) in
-      stmt_failed p (old_state held m.running) fs (run_of held cs m) v u (u - 1) (omega arith) s ss g (done_by s ss blk simple ∙ rw none-acted refl)
+      stmt_failed p (old_state held m.running) fs (run_of held cs m) v u (u - 1) (omega arith) s ss g (done_by s ss blk simple ∙ rw none_acted refl)
 
   pub work_failed : deed (first (rest held at)) ≡ works → act_on (action (first (rest held till))) st (now_state held m.running) ≡ None → Comes held cs p m (Block at u) v → v ≡ failed
-  work_failed d none-acted (in_block fs ss bh blk g) = work_fails fs (ahead blk d) none-acted blk g
+  work_failed d none_acted (in_block fs ss bh blk g) = work_fails fs (ahead blk d) none_acted blk g
 
   work_goes : (next : ℕ) (n : Machine) (fs : List formal.Frame) {ss : syntax.Block} → Ahead works ss → Acted held m.running n.running (action (first (rest held till))) st → n.taken ≡ m.taken → stack n.frames ≡ stack m.frames → next ≡ min (till + 1) (length (code_of held)) → Behind held cs p m fs → BlockAt held p (names held m.running) (params held m.running) at ss → resume p (old_state held m.running) fs (exec_block u p (old_state held m.running) ss (run_of held cs m)) ≡ v → Comes held cs p n (Block next (u - 1)) v
-  work_goes next n fs (work {s} {ss} w) acted taken frames is-next bh blk g =
+  work_goes next n fs (work {s} {ss} w) acted taken frames is_next bh blk g =
       let ds = names held m.running in
       let os = params held m.running in
       let simple = simple_of p ds os w (first_sound held p ds os at s ss blk) in
       let done : exec (u - 1) p (old_state held m.running) s (run_of held cs m) ≡ ok (run_of held cs n) = done_by s ss blk simple ∙ rw (acted.state, taken) refl in
       on_block held cs p m n acted.stays frames next (u - 1) v fs ss bh
-      (behind_block held p ds os at next s ss blk (skipped (code_of held) till next _ (reached s ss blk simple).0 1 is-next))
+      (behind_block held p ds os at next s ss blk (skipped (code_of held) till next _ (reached s ss blk simple).0 1 is_next))
       (stmt_done p (old_state held m.running) fs (run_of held cs m) v u (u - 1) (omega arith) s ss g (run_of held cs n) done)
 
   pub worked_on : (next : ℕ) (n : Machine) → deed (first (rest held at)) ≡ works → Acted held m.running n.running (action (first (rest held till))) st → n.taken ≡ m.taken → stack n.frames ≡ stack m.frames → next ≡ min (till + 1) (length (code_of held)) → Comes held cs p m (Block at u) v → Comes held cs p n (Block next (u - 1)) v
-  worked_on next n d acted taken frames is-next (in_block fs ss bh blk g) = work_goes next n fs (ahead blk d) acted taken frames is-next bh blk g
+  worked_on next n d acted taken frames is_next (in_block fs ss bh blk g) = work_goes next n fs (ahead blk d) acted taken frames is_next bh blk g
 
 -- numbers that are chosen
 pub wrote_stays : (held : Program) (a b : Activation) (x : Word) (vs : List ℕ) → Wrote held a b x vs → Stays held a b
@@ -174,7 +174,7 @@ module _ (held : Program) (cs : List ℕ) (m : Machine) (p : syntax.Program) (ho
   pub havoc_failed : deed (first (rest held at)) ≡ havocs x → values_of (now_state held m.running) x ≡ None → Comes held cs p m (Block at u) v → v ≡ failed
   havoc_failed d e (in_block fs ss bh blk g) = havoc_fails_by fs (ahead blk d) e g
 
-  module _ (n : Machine) (size next : ℕ) (row vs : List ℕ) (found : values_of (now_state held m.running) x ≡ Some row) (long : length row ≡ size) (wrote : Wrote held m.running n.running x vs) (are : held.width ≤ 64 → vs ≡ chosen held.width size (drop m.taken cs)) (frames : stack n.frames ≡ stack m.frames) (taken : drop n.taken cs ≡ drop size (drop m.taken cs)) (is-next : next ≡ min (at + 1) (length (code_of held))) where
+  module _ (n : Machine) (size next : ℕ) (row vs : List ℕ) (found : values_of (now_state held m.running) x ≡ Some row) (long : length row ≡ size) (wrote : Wrote held m.running n.running x vs) (are : held.width ≤ 64 → vs ≡ chosen held.width size (drop m.taken cs)) (frames : stack n.frames ≡ stack m.frames) (taken : drop n.taken cs ≡ drop size (drop m.taken cs)) (is_next : next ≡ min (at + 1) (length (code_of held))) where
     havoc_goes : (fs : List formal.Frame) {ss : syntax.Block} → Ahead (havocs x) ss → Behind held cs p m fs → BlockAt held p (names held m.running) (params held m.running) at ss → resume p (old_state held m.running) fs (exec_block u p (old_state held m.running) ss (run_of held cs m)) ≡ v → Comes held cs p n (Block next (u - 1)) v
     unfolding code_block
     havoc_goes fs (a_havoc {ss = ss}) bh blk g =
@@ -184,7 +184,7 @@ module _ (held : Program) (cs : List ℕ) (m : Machine) (p : syntax.Program) (ho
         let run : record { state = write (now_state held m.running) x (chosen p.width size (drop m.taken cs)); choices = drop size (drop m.taken cs) } ≡ run_of held cs n = rw (← drawn, ← taken, ← wrote.state) refl in
         let done : exec (u - 1) p o (havoc x) (run_of held cs m) ≡ ok (run_of held cs n) = havoc_done p o (run_of held cs m) (u - 1) (u - 2) (omega arith) x row size found long ∙ ap ok run in
         on_block held cs p m n (wrote_stays held m.running n.running x vs wrote) frames next (u - 1) v fs ss bh
-        (behind_block held p (names held m.running) (params held m.running) at next (havoc x) ss blk (skipped (code_of held) at next _ blk.code 1 is-next))
+        (behind_block held p (names held m.running) (params held m.running) at next (havoc x) ss blk (skipped (code_of held) at next _ blk.code 1 is_next))
         (stmt_done p o fs (run_of held cs m) v u (u - 1) (omega arith) (havoc x) ss g (run_of held cs n) done)
 
     pub havoc_on : deed (first (rest held at)) ≡ havocs x → Comes held cs p m (Block at u) v → Comes held cs p n (Block next (u - 1)) v

@@ -32,13 +32,13 @@ pub record SoundProc (p : Program) (q : Proc) : Type 0 where
 pub proc_parts : (p : Program) (q : Proc) → sound_proc p q ≡ true → SoundProc p q
 unfolding sound_proc
 proc_parts p q h =
-    let one-part = and_parts (distinct (map decl_name (scope q))) _ h in
-    let two = and_parts (all_of (λ d. leb d.size 16) (scope q)) _ one-part.1 in
+    let one_part = and_parts (distinct (map decl_name (scope q))) _ h in
+    let two = and_parts (all_of (λ d. leb d.size 16) (scope q)) _ one_part.1 in
     let three = and_parts (leb (length (scope q)) 64) _ two.1 in
     let four = and_parts (sound_bool p.width 0 q.params q.params q.pre) _ three.1 in
     let five = and_parts (sound_bool p.width 0 q.params q.params q.post) _ four.1 in
     let six = and_parts (sound_expr q.params q.params q.measure) (sound_block p (scope q) q.params q.body) five.1 in
-    record { apart = distinct_among q.params q.locals one-part.0; body = six.1; pre = four.0 }
+    record { apart = distinct_among q.params q.locals one_part.0; body = six.1; pre = four.0 }
 
 found_in : (f : Proc → Bool) (qs : List Proc) (x : Word) (q : Proc) → all_of f qs ≡ true → find_proc qs x ≡ Some q → f q ≡ true
 unfolding find_proc
@@ -56,8 +56,8 @@ found_in f (r ∷ qs) x q h e =
 pub all_sound : (p : Program) → sound p ≡ true → all_of (sound_proc p) p.procs ≡ true
 unfolding sound
 all_sound p h =
-    let one-part = and_parts (leb 1 p.width) _ h in
-    let two = and_parts (leb p.width 64) _ one-part.1 in
+    let one_part = and_parts (leb 1 p.width) _ h in
+    let two = and_parts (leb p.width 64) _ one_part.1 in
     (and_parts (distinct (map proc_name p.procs)) (all_of (sound_proc p) p.procs) two.1).1
 
 pub found_sound : (p : Program) (x : Word) (q : Proc) → sound p ≡ true → find_proc p.procs x ≡ Some q → SoundProc p q

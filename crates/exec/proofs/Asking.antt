@@ -30,7 +30,7 @@ HadMemory Memory = ⊥
 HadMemory (Failed f) = Unit {0}
 HadMemory Late = Unit {0}
 
-module _ (held : Program) (i : ℕ) (ns : List ℕ) (o head : Outline) (m : Machine) (from : ℕ) (checked : Checked held i ns o) (ready : Started held head ns m) (same : head.params ≡ o.params) (no-locals : head.locals ≡ length (code_of held)) (is-from : from ≡ min (o.head + 1) (length (code_of held))) where
+module _ (held : Program) (i : ℕ) (ns : List ℕ) (o head : Outline) (m : Machine) (from : ℕ) (checked : Checked held i ns o) (ready : Started held head ns m) (same : head.params ≡ o.params) (no_locals : head.locals ≡ length (code_of held)) (is_from : from ≡ min (o.head + 1) (length (code_of held))) where
   module _ (p : syntax.Program) (hold : Holds held p) (is_sound : sound p ≡ true) (q : Proc) (k : List Instr) (good : sound_proc p q ≡ true) (laid : Laid held o q k) where
     params_of : declared (rest held head.params) ≡ q.params
     params_of = ap (λ n. declared (rest held n)) same ∙ laid.params
@@ -39,10 +39,10 @@ module _ (held : Program) (i : ℕ) (ns : List ℕ) (o head : Outline) (m : Mach
     old_of = ready.begun.old_is ∙ ap (λ ds. state_of ds ns) params_of
 
     now_of : now_state held m.running ≡ state_of q.params ns
-    now_of = ready.begun.now_is ∙ ap (λ ds. state_of ds ns ++ zeros (declared (rest held head.locals))) params_of ∙ ap (λ ds. state_of q.params ns ++ zeros ds) (none_at_end held head.locals no-locals) ∙ append-nil (state_of q.params ns)
+    now_of = ready.begun.now_is ∙ ap (λ ds. state_of ds ns ++ zeros (declared (rest held head.locals))) params_of ∙ ap (λ ds. state_of q.params ns ++ zeros ds) (none_at_end held head.locals no_locals) ∙ append-nil (state_of q.params ns)
 
     asked_code : rest held from ≡ code_bool q.pre (instr.post (length (code_bool q.post [])) ∷ code_bool q.post (instr.measure (length (code_expr q.measure [])) ∷ code_expr q.measure (code_locals q.locals (instr.body (length (code_block q.body [])) ∷ code_block q.body (instr.end_proc ∷ k)))))
-    asked_code = skipped (code_of held) o.head from _ laid.head 1 is-from
+    asked_code = skipped (code_of held) o.head from _ laid.head 1 is_from
 
     asked_by : (x : Option Bool) → holds p.width (now_state held m.running) (old_state held m.running) q.pre ≡ x → unwrap_or x false ≡ true_in p.width (state_of q.params ns) (state_of q.params ns) q.pre
     asked_by x e = ap (λ y. unwrap_or y false) (sym e ∙ ap (λ s. holds p.width s (old_state held m.running) q.pre) now_of ∙ ap (λ s. holds p.width (state_of q.params ns) s q.pre) old_of)

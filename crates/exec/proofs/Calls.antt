@@ -94,11 +94,11 @@ return_begun : (p : syntax.Program) (o o' s : State) (fs : List formal.Frame) (u
 unfolding resume
 return_begun p o o' s fs u ds xs ss r = refl
 
-module _ (held : Program) (cs : List ℕ) (m : Machine) (p : syntax.Program) (hold : Holds held p) (is_sound : sound p ≡ true) (v : Outcome) (at args u : ℕ) (f : Word) (more : 1 < u) (is-args : args ≡ min (at + 1) (length (code_of held))) where
+module _ (held : Program) (cs : List ℕ) (m : Machine) (p : syntax.Program) (hold : Holds held p) (is_sound : sound p ≡ true) (v : Outcome) (at args u : ℕ) (f : Word) (more : 1 < u) (is_args : args ≡ min (at + 1) (length (code_of held))) where
   module _ (xs : List Word) (ss : syntax.Block) (blk : BlockAt held p (names held m.running) (params held m.running) at (seq (call f xs) ss)) where
     args_code : rest held args ≡ code_args xs (instr.end_call ∷ code_block ss (blk.stop ∷ blk.behind))
     unfolding code_stmt
-    args_code = skipped (code_of held) at args _ blk.code 1 is-args
+    args_code = skipped (code_of held) at args _ blk.code 1 is_args
 
     args_are : passed (rest held args) ≡ xs
     args_are = ap passed args_code ∙ passed_args xs _
@@ -129,7 +129,7 @@ module _ (held : Program) (cs : List ℕ) (m : Machine) (p : syntax.Program) (ho
   pub call_late : (c : Called) → deed (first (rest held at)) ≡ calls f → Prepared held m.running f args c → u ≡ 2 → Comes held cs p m (Block at u) v → v ≡ late
   call_late c d good two (in_block fs ss bh blk g) = call_late_by c fs (ahead blk d) (good.ready p hold) two blk g
 
-  module _ (fr : Vec Frame Global) (behind : ℕ) (c : Called) (ready : Ready held m.running f args p c) (big : 2 < u) (is-behind : behind ≡ min (args + length (passed (rest held args)) + 1) (length (code_of held))) (pushed : stack fr ≡ Return m.running args behind (u - 1) ∷ stack m.frames) where
+  module _ (fr : Vec Frame Global) (behind : ℕ) (c : Called) (ready : Ready held m.running f args p c) (big : 2 < u) (is_behind : behind ≡ min (args + length (passed (rest held args)) + 1) (length (code_of held))) (pushed : stack fr ≡ Return m.running args behind (u - 1) ∷ stack m.frames) where
     call_goes : (fs : List formal.Frame) {ss : syntax.Block} → Ahead (calls f) ss → Behind held cs p m fs → BlockAt held p (names held m.running) (params held m.running) at ss → resume p (old_state held m.running) fs (exec_block u p (old_state held m.running) ss (run_of held cs m)) ≡ v → Comes held cs p (record { running = c.callee; frames = fr; taken = m.taken }) (Block c.body (u - 3)) v
     call_goes fs (a_call {xs = xs} {ss = ss}) bh blk g =
         let ds = names held m.running in
@@ -137,10 +137,10 @@ module _ (held : Program) (cs : List ℕ) (m : Machine) (p : syntax.Program) (ho
         let o = old_state held m.running in
         let q = ready.this in
         let good = found_sound p f q is_sound ready.found in
-        let all-names : names held c.callee ≡ q.params ++ q.locals = rw (ready.params_are, ready.locals_are) refl in
+        let all_names : names held c.callee ≡ q.params ++ q.locals = rw (ready.params_are, ready.locals_are) refl in
         let both = and_parts (distinct (passed (rest held args))) (same_sizes ds q.params (passed (rest held args))) (rw ready.found at (call_sound xs ss blk)) in
-        let next = behind_block held p ds os at behind (call f xs) ss blk (behind_code xs ss blk behind is-behind) in
-        let apart : Among (names held c.callee) (params held c.callee) = rw (all-names, ready.params_are) good.apart in
+        let next = behind_block held p ds os at behind (call f xs) ss blk (behind_code xs ss blk behind is_behind) in
+        let apart : Among (names held c.callee) (params held c.callee) = rw (all_names, ready.params_are) good.apart in
         let sizes : same_sizes ds (params held c.callee) (passed (rest held args)) ≡ true = rw ready.params_are both.1 in
         let given = ap (λ ys. pass (now_state held m.running) q.params ys) (sym (args_are xs ss blk)) ∙ ready.passes in
         let begun = stmt_begun p o fs (run_of held cs m) v u (u - 1) (omega arith) (call f xs) ss g in
@@ -152,13 +152,13 @@ module _ (held : Program) (cs : List ℕ) (m : Machine) (p : syntax.Program) (ho
         ∙ ap (λ t. returned (now_state held m.running) (params held c.callee) (passed (rest held args)) (exec_block (u - 3) p (old_state held c.callee) q.body (record { state = t; choices = drop m.taken cs }))) (sym ready.starts) in
         in_block (return_to (u - 1) (now_state held m.running) o (params held c.callee) (passed (rest held args)) ss ∷ fs) q.body
         (record { apart = apart; stands = rw pushed (return_stands bh.apart sizes next bh.stands) })
-        (record { stop = instr.end_proc; behind = ready.behind; code = ready.body_code; ends = at_end_proc; is_sound = rw (all-names, ready.params_are) good.body })
+        (record { stop = instr.end_proc; behind = ready.behind; code = ready.body_code; ends = at_end_proc; is_sound = rw (all_names, ready.params_are) good.body })
         (sym (return_begun p o (old_state held c.callee) (now_state held m.running) fs (u - 1) (params held c.callee) (passed (rest held args)) ss body) ∙ ap (resume p o (rest_of (u - 1) ss ∷ fs)) (sym done) ∙ begun)
 
   pub called_on : (fr : Vec Frame Global) (behind : ℕ) (c : Called) (caller callee : Activation) → deed (first (rest held at)) ≡ calls f → Prepared held m.running f args c → 2 < u → behind ≡ min (args + length (passed (rest held args)) + 1) (length (code_of held)) → caller ≡ m.running → callee ≡ c.callee → stack fr ≡ Return caller args behind (u - 1) ∷ stack m.frames → Comes held cs p m (Block at u) v → Comes held cs p (record { running = callee; frames = fr; taken = m.taken }) (Block c.body (u - 3)) v
-  called_on fr behind c caller callee d good big is-behind is-caller is-callee pushed (in_block fs ss bh blk g) =
+  called_on fr behind c caller callee d good big is_behind is_caller is_callee pushed (in_block fs ss bh blk g) =
       let P : Activation → Type 0 = λ a. Comes held cs p (record { running = a; frames = fr; taken = m.taken }) (Block c.body (u - 3)) v in
-      subst P (sym is-callee) (call_goes fr behind c (good.ready p hold) big is-behind (pushed ∙ ap (λ a. Return a args behind (u - 1) ∷ stack m.frames) is-caller) fs (ahead blk d) bh blk g)
+      subst P (sym is_callee) (call_goes fr behind c (good.ready p hold) big is_behind (pushed ∙ ap (λ a. Return a args behind (u - 1) ∷ stack m.frames) is_caller) fs (ahead blk d) bh blk g)
 
 -- behind a call
 give_back : (p : syntax.Program) (o o' s z : State) (fs : List formal.Frame) (u : ℕ) (ds : List syntax.Decl) (xs : List Word) (ss : syntax.Block) (r : Run) → pass_back s r.state ds xs ≡ Some z → resume p o' (return_to u s o ds xs ss ∷ fs) (ok r) ≡ resume p o fs (exec_block u p o ss (record { state = z; choices = r.choices }))

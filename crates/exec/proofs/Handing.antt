@@ -65,18 +65,18 @@ unfolding counts
 zeros_more xs {es = es} {d = d} e = let n : ℕ = 0 in rw e (append_assoc xs (replicate (count d) n) (replicate (counts es) n) ∙ ap (λ zs. xs ++ zs) (replicate-append-replicate (count d) (counts es) n))
 
 pub begun : (held : Program) (ps ls : ℕ) (ns : List ℕ) (a : Activation) → length ns ≡ counts (declared (rest held ps)) → a.params ≡ ps → a.locals ≡ ls → vec_items a.olds ≡ ns → vec_items a.numbers ≡ ns ++ replicate (counts (declared (rest held ls))) 0 → Begun held ps ls ns a
-begun held ps ls ns a long is-ps is-ls is-olds is-now =
+begun held ps ls ns a long is_ps is_ls is_olds is_now =
     let ds = declared (rest held ps) in
     let es = declared (rest held ls) in
     record {
-      params_at = is-ps;
-      locals_at = is-ls;
+      params_at = is_ps;
+      locals_at = is_ls;
       sized = record {
-        current = rw (is-ps, is-ls, is-now) (length-append ns (replicate (counts es) 0) ∙ rw (long, length-replicate {A = ℕ} (counts es) 0, counts_append ds es));
-        initial = rw (is-ps, is-olds) long;
+        current = rw (is_ps, is_ls, is_now) (length-append ns (replicate (counts es) 0) ∙ rw (long, length-replicate {A = ℕ} (counts es) 0, counts_append ds es));
+        initial = rw (is_ps, is_olds) long;
       };
-      old_is = rw (is-ps, is-olds);
-      now_is = rw (is-ps, is-ls, is-now) (state_append ds es ns (replicate (counts es) 0) long ∙ ap (λ z. state_of ds ns ++ z) (state_zeros es));
+      old_is = rw (is_ps, is_olds);
+      now_is = rw (is_ps, is_ls, is_now) (state_append ds es ns (replicate (counts es) 0) long ∙ ap (λ z. state_of ds ns ++ z) (state_zeros es));
     }
 
 -- the first of several arguments
@@ -183,8 +183,8 @@ module _ (ds es : List Decl) (ns ms : List ℕ) (room : length ns ≡ counts ds)
       let r = row_found ds ns x d room found in
       let t = slot_found es 0 y c there in
       let is_row : vs ≡ r.values = cc r.found in
-      let is-slot : s ≡ t.slot = cc t.found in
-      other (ap length is_row ∙ r.long ∙ same ∙ sym t.size ∙ ap (λ (q : Slot). q.size) (sym is-slot))
+      let is_slot : s ≡ t.slot = cc t.found in
+      other (ap length is_row ∙ r.long ∙ same ∙ sym t.size ∙ ap (λ (q : Slot). q.size) (sym is_slot))
 
 among_split : {ds fs : List Decl} {d : Decl} → Among ds (d ∷ fs) → (find_decl ds d.name ≡ Some d) × Among ds fs
 among_split (one found others) = (found, others)

@@ -106,7 +106,7 @@ unfolding weight
 weight_more e = rw e
 
 pub pushed_less : (u w n : ℕ) (f : Frame) (fs gs : List Frame) → gs ≡ f ∷ fs → 0 < u → w ≤ u - 1 → frame_weight f ≡ 4 ^ (u - 1) + 1 → n ≡ 4 ^ w → weight gs + n < weight fs + 4 ^ u
-pushed_less u w n f fs gs e pos less is_f is-n =
+pushed_less u w n f fs gs e pos less is_f is_n =
     let q = four u pos in
     let small : 4 ^ w ≤ 4 ^ (u - 1) = pow-le-pow_right (omega arith) less in
     omega (arith, weight_more e, q.0, q.1)
@@ -131,7 +131,7 @@ module _ (held : Program) (cs : List ℕ) (p : syntax.Program) where
   late_block {m} {at} {u} {v} z (in_block fs ss b blk e) = block_late p (old_state held m.running) fs (run_of held cs m) v u ss z e
 
   pub late_loop : {m : Machine} {at u : ℕ} {v : Outcome} → u ≡ 0 → Comes held cs p m (Loop at u) v → v ≡ late
-  late_loop {m} {at} {u} {v} z (in_loop fs b i e c bh at-loop g) = loop_late p (old_state held m.running) fs (run_of held cs m) v u (loop b i e c) z g
+  late_loop {m} {at} {u} {v} z (in_loop fs b i e c bh at_loop g) = loop_late p (old_state held m.running) fs (run_of held cs m) v u (loop b i e c) z g
 
   block_ends : (u : ℕ) (v : Outcome) (m : Machine) (fs : List formal.Frame) {ss : syntax.Block} → Ahead ends ss → 0 < u → Behind held cs p m fs → resume p (old_state held m.running) fs (exec_block u p (old_state held m.running) ss (run_of held cs m)) ≡ v → Comes held cs p m Done v
   block_ends u v m fs no_more pos b e = at_end fs b (block_end p (old_state held m.running) fs (run_of held cs m) v u (u - 1) (omega arith) e)
@@ -173,10 +173,10 @@ module _ (held : Program) (cs : List ℕ) (m : Machine) (fr : Vec Frame Global) 
     entered at u r d more laid pushed (in_block fs ss bh blk g) = enter_by at u r.behind fs (ahead blk d) more laid.behind_code pushed bh blk g
 
   -- both ways of an `if`
-  module _ (ds os : List Decl) (p : syntax.Program) (w : Ways) (till : ℕ) (laid : BranchLaid held till w) (c d : syntax.Block) (k : List Instr) (here : rest held till ≡ code_ways c d k) (good-c : sound_block p ds os c ≡ true) (good-d : sound_block p ds os d ≡ true) where
+  module _ (ds os : List Decl) (p : syntax.Program) (w : Ways) (till : ℕ) (laid : BranchLaid held till w) (c d : syntax.Block) (k : List Instr) (here : rest held till ≡ code_ways c d k) (good_c : sound_block p ds os c ≡ true) (good_d : sound_block p ds os d ≡ true) where
     way_block : (value : Bool) (way : ℕ) → way ≡ cond value w.then w.otherwise → BlockAt held p ds os way (cond value c d)
-    way_block true way e = record { stop = instr.else (length (code_block d [])); behind = code_block d (instr.end_if ∷ k); code = rw e (laid.then_code c d k here); ends = at_else; is_sound = good-c }
-    way_block false way e = record { stop = instr.end_if; behind = k; code = rw e (laid.else_code c d k here); ends = at_end_if; is_sound = good-d }
+    way_block true way e = record { stop = instr.else (length (code_block d [])); behind = code_block d (instr.end_if ∷ k); code = rw e (laid.then_code c d k here); ends = at_else; is_sound = good_c }
+    way_block false way e = record { stop = instr.end_if; behind = k; code = rw e (laid.else_code c d k here); ends = at_end_if; is_sound = good_d }
 
 -- one statement by itself
 module _ (p : syntax.Program) (o : State) (r : Run) where
@@ -216,7 +216,7 @@ module _ (held : Program) (p : syntax.Program) (hold : Holds held p) (is_sound :
 module _ (held : Program) (cs : List ℕ) (m : Machine) (p : syntax.Program) (hold : Holds held p) (is_sound : sound p ≡ true) (v : Outcome) where
   branch_by : (fr : Vec Frame Global) (at start till u way : ℕ) (w : Ways) (value : Bool) (fs : List formal.Frame) {ss : syntax.Block} → Ahead tests ss → 1 < u → start ≡ min (at + 1) (length (code_of held)) → Tested held m.running start till value → BranchLaid held till w → way ≡ cond value w.then w.otherwise → stack fr ≡ Rest w.behind (u - 1) ∷ stack m.frames → Behind held cs p m fs → BlockAt held p (names held m.running) (params held m.running) at ss → resume p (old_state held m.running) fs (exec_block u p (old_state held m.running) ss (run_of held cs m)) ≡ v → Comes held cs p (with_frames m fr) (Block way (u - 2)) v
   unfolding code_block sound_stmt
-  branch_by fr at start till u way w value fs (an_if {b} {c} {d} {ss}) more is-start tested laid is-way pushed bh blk g =
+  branch_by fr at start till u way w value fs (an_if {b} {c} {d} {ss}) more is_start tested laid is_way pushed bh blk g =
       let ds = names held m.running in
       let os = params held m.running in
       let o = old_state held m.running in
@@ -224,32 +224,32 @@ module _ (held : Program) (cs : List ℕ) (m : Machine) (p : syntax.Program) (ho
       let both = and_parts (sound_stmt p ds os (branch b c d)) (sound_block p ds os ss) blk.is_sound in
       let parts = and_parts (sound_bool p.width 0 ds os b) (sound_block p ds os c && sound_block p ds os d) both.0 in
       let ways = and_parts (sound_block p ds os c) (sound_block p ds os d) parts.1 in
-      let at_test : rest held start ≡ code_bool b (code_ways c d k) = skipped (code_of held) at start _ blk.code 1 is-start in
+      let at_test : rest held start ≡ code_bool b (code_ways c d k) = skipped (code_of held) at start _ blk.code 1 is_start in
       let got = told_in held p hold is_sound m.running ds os start till value b _ _ tested at_test refl parts.0 in
       let next : BlockAt held p ds os w.behind ss = record { stop = blk.stop; behind = blk.behind; code = laid.behind_code c d k got.0; ends = blk.ends; is_sound = both.1 } in
       let P : Outcome → Type 0 = λ x. resume p o (rest_of (u - 1) ss ∷ fs) x ≡ v in
       in_block (rest_of (u - 1) ss ∷ fs) (cond value c d)
       (record { apart = bh.apart; stands = rw pushed (rest_stands next bh.stands) })
-      (way_block held cs m fr ds os p w till laid c d k got.0 ways.0 ways.1 value way is-way)
+      (way_block held cs m fr ds os p w till laid c d k got.0 ways.0 ways.1 value way is_way)
       (subst P (branched p o (run_of held cs m) (u - 1) (u - 2) b c d value (omega arith) got.1) (stmt_begun p o fs (run_of held cs m) v u (u - 1) (omega arith) (branch b c d) ss g))
 
   pub branch_taken : (fr : Vec Frame Global) (at start till u way : ℕ) (w : Ways) (value : Bool) → deed (first (rest held at)) ≡ tests → 1 < u → start ≡ min (at + 1) (length (code_of held)) → Tested held m.running start till value → BranchLaid held till w → way ≡ cond value w.then w.otherwise → stack fr ≡ Rest w.behind (u - 1) ∷ stack m.frames → Comes held cs p m (Block at u) v → Comes held cs p (with_frames m fr) (Block way (u - 2)) v
-  branch_taken fr at start till u way w value d more is-start tested laid is-way pushed (in_block fs ss bh blk g) = branch_by fr at start till u way w value fs (ahead blk d) more is-start tested laid is-way pushed bh blk g
+  branch_taken fr at start till u way w value d more is_start tested laid is_way pushed (in_block fs ss bh blk g) = branch_by fr at start till u way w value fs (ahead blk d) more is_start tested laid is_way pushed bh blk g
 
   branch_fails_by : (at start u : ℕ) (fs : List formal.Frame) {ss : syntax.Block} → Ahead tests ss → 1 < u → start ≡ min (at + 1) (length (code_of held)) → Untold held m.running start → BlockAt held p (names held m.running) (params held m.running) at ss → resume p (old_state held m.running) fs (exec_block u p (old_state held m.running) ss (run_of held cs m)) ≡ v → v ≡ failed
   unfolding code_block sound_stmt
-  branch_fails_by at start u fs (an_if {b} {c} {d} {ss}) more is-start untold blk g =
+  branch_fails_by at start u fs (an_if {b} {c} {d} {ss}) more is_start untold blk g =
       let ds = names held m.running in
       let os = params held m.running in
       let o = old_state held m.running in
       let both = and_parts (sound_stmt p ds os (branch b c d)) (sound_block p ds os ss) blk.is_sound in
       let parts = and_parts (sound_bool p.width 0 ds os b) (sound_block p ds os c && sound_block p ds os d) both.0 in
-      let at_test : rest held start ≡ code_bool b (code_ways c d (code_block ss (blk.stop ∷ blk.behind))) = skipped (code_of held) at start _ blk.code 1 is-start in
+      let at_test : rest held start ≡ code_bool b (code_ways c d (code_block ss (blk.stop ∷ blk.behind))) = skipped (code_of held) at start _ blk.code 1 is_start in
       let none_told = untold_in held p hold is_sound m.running ds os start b _ _ untold at_test refl parts.0 in
       stmt_failed p o fs (run_of held cs m) v u (u - 1) (omega arith) (branch b c d) ss g (branch_fails p o (run_of held cs m) (u - 1) (u - 2) b c d (omega arith) none_told)
 
   pub branch_failed : (at start u : ℕ) → deed (first (rest held at)) ≡ tests → 1 < u → start ≡ min (at + 1) (length (code_of held)) → Untold held m.running start → Comes held cs p m (Block at u) v → v ≡ failed
-  branch_failed at start u d more is-start untold (in_block fs ss bh blk g) = branch_fails_by at start u fs (ahead blk d) more is-start untold blk g
+  branch_failed at start u d more is_start untold (in_block fs ss bh blk g) = branch_fails_by at start u fs (ahead blk d) more is_start untold blk g
 
   -- rounds of a loop
   module _ (at u : ℕ) (r : Rounds) (pos : 0 < u) (laid : LoopLaid held at r) where
@@ -293,10 +293,10 @@ module _ (held : Program) (cs : List ℕ) (m : Machine) (p : syntax.Program) (ho
 -- another procedure runs, and the one before stands in a frame
 pub called_fit : (held : Program) (m : Machine) (fr : Vec Frame Global) (caller callee wanted : Activation) (xs at u : ℕ) → caller ≡ m.running → callee ≡ wanted → Sized held wanted → Fit held m → stack fr ≡ Return caller xs at u ∷ stack m.frames → Fit held (record { running = callee; frames = fr; taken = m.taken })
 unfolding Kept
-called_fit held m fr caller callee wanted xs at u is-caller is-callee sized fit pushed =
+called_fit held m fr caller callee wanted xs at u is_caller is_callee sized fit pushed =
     let C : Activation → Type 0 = λ a. Sized held a in
     let F : List Frame → Type 0 = λ fs. Kept held fs in
-    record { running = subst C (sym is-callee) sized; frames = subst F (sym pushed) (subst C (sym is-caller) fit.running, fit.frames) }
+    record { running = subst C (sym is_callee) sized; frames = subst F (sym pushed) (subst C (sym is_caller) fit.running, fit.frames) }
 
 -- a frame less
 pub popped_less : (f : Frame) (u : ℕ) (fs gs : List Frame) → fs ≡ f ∷ gs → frame_weight f ≡ 4 ^ u + 1 → weight gs + 4 ^ u < weight fs + 0

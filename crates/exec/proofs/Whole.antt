@@ -46,7 +46,7 @@ begins : (p : syntax.Program) (q : Proc) (u w : ℕ) (o s t : State) (cs ds : Li
 unfolding run_proc
 begins p q u w o s t cs ds is e f g = rw (is, e, f, g) refl
 
-module _ (held : Program) (i : ℕ) (ns cs : List ℕ) (u w : ℕ) (is-u : u ≡ suc w) (o : Outline) (m : Machine) (ready : Started held o ns m) where
+module _ (held : Program) (i : ℕ) (ns cs : List ℕ) (u w : ℕ) (is_u : u ≡ suc w) (o : Outline) (m : Machine) (ready : Started held o ns m) where
   module _ (p : syntax.Program) (q : Proc) (k : List Instr) (good : sound_proc p q ≡ true) (laid : Laid held o q k) where
     params_of : params held m.running ≡ q.params
     params_of = ap (λ n. declared (rest held n)) ready.begun.params_at ∙ laid.params
@@ -73,7 +73,7 @@ module _ (held : Program) (i : ℕ) (ns cs : List ℕ) (u w : ℕ) (is-u : u ≡
         in_block [] q.body
         (record { apart = rw (names_of, params_of) parts.apart; stands = rw ready.no_frames none })
         (record { stop = instr.end_proc; behind = k; code = laid.body; ends = at_end_proc; is_sound = rw (names_of, params_of) parts.body })
-        (begins p q u w (old_state held m.running) (state_of q.params ns) (now_state held m.running) cs (drop m.taken cs) is-u old_of now_of untaken)
+        (begins p q u w (old_state held m.running) (state_of q.params ns) (now_state held m.running) cs (drop m.taken cs) is_u old_of now_of untaken)
 
     -- the last machine runs the same procedure
     last_names : (last : Machine) → (last.running.params, last.running.locals) ≡ bottom m.running (stack m.frames) → names held last.running ≡ q.params ++ q.locals

@@ -20,7 +20,7 @@ pub length_put : (a : ℕ) (xs vs : List ℕ) → a + length vs ≤ length xs �
 length_put a xs vs h = simp (length-append, length-take-le a xs (omega arith), length-drop) (omega arith)
 
 pub refilled_copy : (n a e : ℕ) (row items ys vs : List ℕ) → row ≡ items → ys ≡ vs → n ≡ length items → a + length vs ≤ length items → e ≡ length vs → take n (put_mid a e row ys ++ drop (length (put_mid a e row ys)) items) ≡ put_mid a (length vs) items vs
-refilled_copy n a e row items ys vs is_row is-vs is-n h is-e = rw (is_row, is-vs, is-e) (take_at (put_mid a (length vs) items vs) (drop (length (put_mid a (length vs) items vs)) items) n (length_put a items vs h ∙ sym is-n))
+refilled_copy n a e row items ys vs is_row is_vs is_n h is_e = rw (is_row, is_vs, is_e) (take_at (put_mid a (length vs) items vs) (drop (length (put_mid a (length vs) items vs)) items) n (length_put a items vs h ∙ sym is_n))
 
 -- a name of one number
 one_number : (vs : List ℕ) → length vs ≡ 1 → when (eqb (length vs) 1) (slice_get vs 0) ≡ Some (get_or vs 0 0)

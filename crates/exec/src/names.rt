@@ -15,7 +15,9 @@ use lang::code::Place;
 use lang::program::Program;
 
 // Does not happen in a sound program.
-pub fn undefined(at: Place) -> Failure {
+pub fn undefined(at: Place) -> Failure
+    ensures { result ≡ record { at = at; reason = Reason.Undefined } }
+{
     Failure {
         at,
         reason: Reason::Undefined,

@@ -180,8 +180,8 @@ ahead_meant text start end the.Number w m = refl
 ahead_meant text start end the.Stray w m = refl
 ahead_meant text start end the.End w m = cc
 
-get_d_part : (text : List ℕ) (start end : ℕ) → start < end → get_or (part text start end) 0 0 ≡ get_or text start 0
-get_d_part text start end h =
+get_or_part : (text : List ℕ) (start end : ℕ) → start < end → get_or (part text start end) 0 0 ≡ get_or text start 0
+get_or_part text start end h =
     let inside : 0 < end - start = omega arith in
     get_or-take (end - start) (drop start text) 0 0 inside ∙ get_or-drop start text 0 0 ∙ ap (λ i. get_or text i 0) (add-zero start)
 
@@ -207,7 +207,7 @@ pub ahead_word : (text : List ℕ) (start end : ℕ) (t : declared.Token) →
 ahead_word text start end t h e whole m =
     let w = part text start end in
     let rest = tokens (drop end text) in
-    let known : in_run (get_or w 0 0) ≡ true → w ≡ run (drop start text) = rw (get_d_part text start end h) whole in
+    let known : in_run (get_or w 0 0) ≡ true → w ≡ run (drop start text) = rw (get_or_part text start end h) whole in
     ahead_meant text start end t w m ∙ ap (λ ts. ts ++ rest) (meant_at (run (drop start text)) w t known m ∙ m) ∙ sym (tokens_word text start end e)
 
 pub nonempty_word : (t : declared.Token) (start end : ℕ) → start < end → Nonempty t start end

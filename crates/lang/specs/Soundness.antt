@@ -1,5 +1,5 @@
 -- Which programs are sound: each name is there, of a number or a row, as it is used, and all is within its bounds.
-use Rattle.std.specs.Prelude.{ℕ, suc, ◌^◌, Bool, true, false, cond, not, ◌&&◌, leb, List, [], ◌∷◌, ◌++◌, map, length, is_some, Some, None, Option, ◌==◌, nat_eq, nat_le, nat_lt}
+use Rattle.std.specs.Prelude.{ℕ, suc, ◌^◌, Bool, true, false, cond, not, ◌&&◌, List, [], ◌∷◌, ◌++◌, map, length, is_some, Some, None, Option, ◌==◌, nat_eq, nat_le, nat_lt}
 use Rattle.lang.specs.Base.{maybe, all_of, Word, same, distinct}
 use Rattle.lang.specs.Syntax.{Expr, num, var, old, binary, index, old_index, BoolExpr, truth, compare, conj, disj, implies, negate, for_all, Stmt, assign, store, branch, loop, check, call, havoc, Block, end, seq, Decl, Proc, Program}
 
@@ -70,7 +70,7 @@ scope q = q.params ++ q.locals
 
 -- what is asked, promised and measured speaks of parameters only
 unfoldable pub sound_proc : Program → Proc → Bool
-sound_proc p q = distinct (map decl_name (scope q)) && (all_of (λ d. leb d.size 16) (scope q) && (nat_le (length (scope q)) 64 && (sound_bool p.width 0 q.params q.params q.pre && (sound_bool p.width 0 q.params q.params q.post && (sound_expr q.params q.params q.measure && sound_block p (scope q) q.params q.body)))))
+sound_proc p q = distinct (map decl_name (scope q)) && (all_of (λ d. nat_le d.size 16) (scope q) && (nat_le (length (scope q)) 64 && (sound_bool p.width 0 q.params q.params q.pre && (sound_bool p.width 0 q.params q.params q.post && (sound_expr q.params q.params q.measure && sound_block p (scope q) q.params q.body)))))
 
 unfoldable pub sound : Program → Bool
 sound p = nat_le 1 p.width && (nat_le p.width 64 && (distinct (map proc_name p.procs) && all_of (sound_proc p) p.procs))

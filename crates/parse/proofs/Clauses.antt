@@ -10,7 +10,7 @@ use Rattle.parse.specs.Reading.{Snap, Read, Paid, advanced, emitted}
 use Rattle.parse.proofs.Heads.{expect_starts}
 use Rattle.parse.proofs.Rooms.{paid_then, paid_item, paid_advance}
 
-module _ {A : Type 0} (word : Fixed) (piece whole : List Token → Parsed A) (code_of_lem : A → List Instr) (rule : (ts : List Token) → whole ts ≡ (expect word ts >>= λ us. piece us >>= λ p. expect Semicolon p.1 >>= λ ws. Some (p.0, ws))) (s : Snap) where
+module _ {A : Type 0} (word : Fixed) (piece whole : List Token → Parsed A) (coding : A → List Instr) (rule : (ts : List Token) → whole ts ≡ (expect word ts >>= λ us. piece us >>= λ p. expect Semicolon p.1 >>= λ ws. Some (p.0, ws))) (s : Snap) where
   pub clause_none : expect word s.ahead ≡ None → whole s.ahead ≡ None
   clause_none e = rw (rule s.ahead, e)
 
@@ -21,15 +21,15 @@ module _ {A : Type 0} (word : Fixed) (piece whole : List Token → Parsed A) (co
     pub clause_room : (i : Instr) → Paid s (emitted i t)
     clause_room i = subst (λ r. Paid s (emitted i r)) (sym first) (paid_item s i (expect_starts word s.ahead t.ahead e))
 
-    module _ (u : Snap) (h : Read piece code_of_lem t u) where
+    module _ (u : Snap) (h : Read piece coding t u) where
       pub clause_unended : expect Semicolon u.ahead ≡ None → whole s.ahead ≡ None
       clause_unended n = rw (rule s.ahead, e, h.parsed, n)
 
-      pub clause : (v : Snap) → v ≡ advanced u → expect Semicolon u.ahead ≡ Some v.ahead → Read whole code_of_lem s v
+      pub clause : (v : Snap) → v ≡ advanced u → expect Semicolon u.ahead ≡ Some v.ahead → Read whole coding s v
       clause v last f = record {
         value = h.value;
         parsed = rw (rule s.ahead, e, h.parsed, f);
-        code = ap (λ r. r.code) last ∙ h.code ∙ ap (λ r. r.code ++ code_of_lem h.value) first;
+        code = ap (λ r. r.code) last ∙ h.code ∙ ap (λ r. r.code ++ coding h.value) first;
         pending = ap (λ r. r.pending) last ∙ h.pending ∙ ap (λ r. r.pending) first;
       }
 

@@ -13,13 +13,13 @@ behind_header is js i = omega (arith, length-append (is ++ i ∷ []) js, length_
 header_set : (is js : List Instr) (i j : Instr) → set ((is ++ i ∷ []) ++ js) (length is) j ≡ is ++ j ∷ js
 header_set is js i j = ap (λ k. set k (length is) j) (append_assoc is (i ∷ []) js) ∙ set_at is i js j (length is) refl
 
-pub headed : {A : Type 0} (parse : List Token → Parsed A) (code_of_lem : A → List Instr) (header : ℕ → Instr) (s t : Snap) → Read parse code_of_lem (emitted (header 0) s) t → Read parse (λ x. header (length (code_of_lem x)) ∷ code_of_lem x) s (patched (length s.code) (header (length t.code - (length s.code + 1))) t)
-headed parse code_of_lem header s t h =
-    let long : length t.code - (length s.code + 1) ≡ length (code_of_lem h.value) = ap (λ k. length k - (length s.code + 1)) h.code ∙ behind_header s.code (code_of_lem h.value) (header 0) in
+pub headed : {A : Type 0} (parse : List Token → Parsed A) (coding : A → List Instr) (header : ℕ → Instr) (s t : Snap) → Read parse coding (emitted (header 0) s) t → Read parse (λ x. header (length (coding x)) ∷ coding x) s (patched (length s.code) (header (length t.code - (length s.code + 1))) t)
+headed parse coding header s t h =
+    let long : length t.code - (length s.code + 1) ≡ length (coding h.value) = ap (λ k. length k - (length s.code + 1)) h.code ∙ behind_header s.code (coding h.value) (header 0) in
     record {
       value = h.value;
       parsed = h.parsed;
-      code = ap (λ k. set k (length s.code) (header (length t.code - (length s.code + 1)))) h.code ∙ header_set s.code (code_of_lem h.value) (header 0) _ ∙ ap (λ n. s.code ++ header n ∷ code_of_lem h.value) long;
+      code = ap (λ k. set k (length s.code) (header (length t.code - (length s.code + 1)))) h.code ∙ header_set s.code (coding h.value) (header 0) _ ∙ ap (λ n. s.code ++ header n ∷ coding h.value) long;
       pending = h.pending;
     }
 

@@ -11,12 +11,12 @@ use Rattle.parse.specs.Listed.{codes, AtItem}
 use Rattle.parse.specs.Reading.{Snap, Read, advanced}
 use Rattle.parse.proofs.Binds.{>>=-assoc, >>=-ext, >>=-some}
 
-pub codes_more : {A : Type 0} (code_of_lem : A → List Instr → List Instr) → ((x : A) → Front (code_of_lem x)) → (xs : List A) (x : A) → codes code_of_lem (xs ++ x ∷ []) ≡ codes code_of_lem xs ++ code_of_lem x []
-codes_more code_of_lem front [] x = refl
-codes_more code_of_lem front (y ∷ xs) x = ap (code_of_lem y) (codes_more code_of_lem front xs x) ∙ (front y).splits (codes code_of_lem xs ++ code_of_lem x []) ∙ sym (append_assoc (code_of_lem y []) (codes code_of_lem xs) (code_of_lem x [])) ∙ ap (λ is. is ++ code_of_lem x []) (sym ((front y).splits (codes code_of_lem xs)))
+pub codes_more : {A : Type 0} (coding : A → List Instr → List Instr) → ((x : A) → Front (coding x)) → (xs : List A) (x : A) → codes coding (xs ++ x ∷ []) ≡ codes coding xs ++ coding x []
+codes_more coding front [] x = refl
+codes_more coding front (y ∷ xs) x = ap (coding y) (codes_more coding front xs x) ∙ (front y).splits (codes coding xs ++ coding x []) ∙ sym (append_assoc (coding y []) (codes coding xs) (coding x [])) ∙ ap (λ is. is ++ coding x []) (sym ((front y).splits (codes coding xs)))
 
-module _ {A : Type 0} (item : List Token → Parsed A) (code_of_lem : A → List Instr → List Instr) (front : (x : A) → Front (code_of_lem x)) (last : Fixed) (items : List Token → Parsed (List A)) (rule : (ts : List Token) → items ts ≡ (item ts >>= λ p. cond (starts Comma p.1) (items (onward p.1) >>= λ q. Some (p.0 ∷ q.0, q.1)) (expect last p.1 >>= λ us. Some (p.0 ∷ [], us)))) where
-  pub first_item : (s : Snap) → AtItem items code_of_lem s s
+module _ {A : Type 0} (item : List Token → Parsed A) (coding : A → List Instr → List Instr) (front : (x : A) → Front (coding x)) (last : Fixed) (items : List Token → Parsed (List A)) (rule : (ts : List Token) → items ts ≡ (item ts >>= λ p. cond (starts Comma p.1) (items (onward p.1) >>= λ q. Some (p.0 ∷ q.0, q.1)) (expect last p.1 >>= λ us. Some (p.0 ∷ [], us)))) where
+  pub first_item : (s : Snap) → AtItem items coding s s
   first_item s = record { read = []; code = sym (append-nil s.code); pending = refl; rest = sym (>>=-some (items s.ahead)) }
 
   -- behind an item, by whether there is a comma
@@ -27,17 +27,17 @@ module _ {A : Type 0} (item : List Token → Parsed A) (code_of_lem : A → List
   after_more xs x us true = >>=-assoc (items (onward us)) _ _
   after_more xs x us false = >>=-assoc (expect last us) _ _
 
-  module _ (before s : Snap) (h : AtItem items code_of_lem before s) where
+  module _ (before s : Snap) (h : AtItem items coding before s) where
     pub no_item : item s.ahead ≡ None → items before.ahead ≡ None
     no_item n = h.rest ∙ rw (rule s.ahead, n)
 
     behind : (x : A) (us : List Token) → item s.ahead ≡ Some (x, us) → items before.ahead ≡ after h.read x us (starts Comma us)
     behind x us n = h.rest ∙ rw (rule s.ahead, n) (after_more h.read x us (starts Comma us))
 
-    written : (t : Snap) (x : A) → t.code ≡ s.code ++ code_of_lem x [] → t.code ≡ before.code ++ codes code_of_lem (h.read ++ x ∷ [])
-    written t x c = c ∙ ap (λ is. is ++ code_of_lem x []) h.code ∙ append_assoc before.code (codes code_of_lem h.read) (code_of_lem x []) ∙ ap (λ is. before.code ++ is) (sym (codes_more code_of_lem front h.read x))
+    written : (t : Snap) (x : A) → t.code ≡ s.code ++ coding x [] → t.code ≡ before.code ++ codes coding (h.read ++ x ∷ [])
+    written t x c = c ∙ ap (λ is. is ++ coding x []) h.code ∙ append_assoc before.code (codes coding h.read) (coding x []) ∙ ap (λ is. before.code ++ is) (sym (codes_more coding front h.read x))
 
-    pub next_item : (t : Snap) (x : A) → item s.ahead ≡ Some (x, t.ahead) → t.code ≡ s.code ++ code_of_lem x [] → t.pending ≡ s.pending → starts Comma t.ahead ≡ true → AtItem items code_of_lem before (advanced t)
+    pub next_item : (t : Snap) (x : A) → item s.ahead ≡ Some (x, t.ahead) → t.code ≡ s.code ++ coding x [] → t.pending ≡ s.pending → starts Comma t.ahead ≡ true → AtItem items coding before (advanced t)
     next_item t x n c p b = record {
       read = h.read ++ x ∷ [];
       code = written t x c;
@@ -45,7 +45,7 @@ module _ {A : Type 0} (item : List Token → Parsed A) (code_of_lem : A → List
       rest = behind x t.ahead n ∙ rw b (>>=-ext (items (onward t.ahead)) λ q. ap (λ xs. Some (xs, q.1)) (sym (append_assoc h.read (x ∷ []) q.0)));
     }
 
-    pub last_item : (t : Snap) (x : A) → item s.ahead ≡ Some (x, t.ahead) → t.code ≡ s.code ++ code_of_lem x [] → t.pending ≡ s.pending → starts Comma t.ahead ≡ false → (u : Snap) → expect last t.ahead ≡ Some u.ahead → u.code ≡ t.code → u.pending ≡ t.pending → Read items (codes code_of_lem) before u
+    pub last_item : (t : Snap) (x : A) → item s.ahead ≡ Some (x, t.ahead) → t.code ≡ s.code ++ coding x [] → t.pending ≡ s.pending → starts Comma t.ahead ≡ false → (u : Snap) → expect last t.ahead ≡ Some u.ahead → u.code ≡ t.code → u.pending ≡ t.pending → Read items (codes coding) before u
     last_item t x n c p b u e d q = record { value = h.read ++ x ∷ []; parsed = behind x t.ahead n ∙ rw (b, e); code = d ∙ written t x c; pending = q ∙ p ∙ h.pending }
 
     pub no_end : (t : Snap) (x : A) → item s.ahead ≡ Some (x, t.ahead) → starts Comma t.ahead ≡ false → expect last t.ahead ≡ None → items before.ahead ≡ None

@@ -113,10 +113,10 @@ abbrev pub sealed : Kind → ℕ → Snap → Snap
 sealed k at s = patched at (kind_instr k (length s.code - (at + 1))) s
 
 -- A head has been read up to the brace of its block, which is open now.
-pub record Headed {A : Type 0} (parse : List Token → Parsed A) (code_of_lem : A → List Instr) (kind : Kind) (before after : Snap) : Type 0 where
+pub record Headed {A : Type 0} (parse : List Token → Parsed A) (coding : A → List Instr) (kind : Kind) (before after : Snap) : Type 0 where
   pub value : A
   pub parsed : parse before.ahead ≡ Some (value, after.ahead)
-  pub code : after.code ≡ before.code ++ code_of_lem value
+  pub code : after.code ≡ before.code ++ coding value
   pub at : ℕ
   pub placed : at + 1 ≡ length after.code
   pub pending : after.pending ≡ before.pending ++ kind_part kind at ∷ []

@@ -12,9 +12,9 @@ codes code [] = []
 codes code (x ∷ xs) = code x (codes code xs)
 
 -- The next item is to be read; `items` reads what is left of them.
-pub record AtItem {A : Type 0} (items : List Token → Parsed (List A)) (code_of_lem : A → List Instr → List Instr) (before s : Snap) : Type 0 where
+pub record AtItem {A : Type 0} (items : List Token → Parsed (List A)) (coding : A → List Instr → List Instr) (before s : Snap) : Type 0 where
   pub read : List A
-  pub code : s.code ≡ before.code ++ codes code_of_lem read
+  pub code : s.code ≡ before.code ++ codes coding read
   pub pending : s.pending ≡ before.pending
   pub rest : items before.ahead ≡ (do
     (xs, us) ← items s.ahead

@@ -57,8 +57,8 @@ pub record Paid (before after : Snap) : Type 0 where
   pub pending_room : after.pending_room ≡ before.pending_room
 
 -- A whole piece has been read: its value, by the grammar, and the code that was written of it.
-pub record Read {A : Type 0} (parse : List Token → Parsed A) (code_of_lem : A → List Instr) (before after : Snap) : Type 0 where
+pub record Read {A : Type 0} (parse : List Token → Parsed A) (coding : A → List Instr) (before after : Snap) : Type 0 where
   pub value : A
   pub parsed : parse before.ahead ≡ Some (value, after.ahead)
-  pub code : after.code ≡ before.code ++ code_of_lem value
+  pub code : after.code ≡ before.code ++ coding value
   pub pending : after.pending ≡ before.pending

@@ -103,7 +103,9 @@ impl<'s, 'a> Reader<'s, 'a> {
     }
 
     // What is missing at the token at hand.
-    pub fn missing(&self, expected: Expected) -> NoText {
+    pub fn missing(&self, expected: Expected) -> NoText
+        ensures { result ≡ record { at = self.now.cursor.start; expected = expected } }
+    {
         NoText {
             at: self.cursor.start,
             expected,

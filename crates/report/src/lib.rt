@@ -3,7 +3,7 @@
 
 ghost use Rattle.std.specs.Prelude.{◌≡◌, take, IfOk, string_bytes};
 ghost use Rattle.lang.specs.Positions.{position_behind};
-ghost use Rattle.report.specs.Places.{place_text};
+ghost use Rattle.report.specs.Places.{place_text, Tells};
 
 use lang::position::{Position, position_of};
 use lang::scan::scan;
@@ -43,17 +43,35 @@ fn found(heap: Global, text: &[u8], at: usize) -> Result<String, AllocError> {
     format!(in heap; "`{word}`")
 }
 
+// A message about the byte at an index: where it stands, and what is told of it.
+fn message(
+    heap: Global,
+    file: &str,
+    text: &[u8],
+    at: usize,
+    why: &str,
+) -> Result<String, AllocError>
+    ensures { IfOk result (λ s. Tells file.now text.now at (string_bytes s)) }
+{
+    let place = place(heap, file, text, at)?;
+    format!(in heap; "{place}: {why}")
+}
+
 // A text that cannot be read.
-pub fn no_text(heap: Global, file: &str, text: &[u8], e: NoText) -> Result<String, AllocError> {
-    let at = place(heap, file, text, e.at)?;
+pub fn no_text(heap: Global, file: &str, text: &[u8], e: NoText) -> Result<String, AllocError>
+    ensures { IfOk result (λ s. Tells file.now text.now e.at (string_bytes s)) }
+{
     let expected = e.expected;
     let found = found(heap, text, e.at)?;
-    format!(in heap; "{at}: no text: expected {expected}, found {found}")
+    let why = format!(in heap; "no text: expected {expected}, found {found}")?;
+    message(heap, file, text, e.at, why.as_str())
 }
 
 // A program that is not sound.
-pub fn not_sound(heap: Global, file: &str, text: &[u8], e: Unsound) -> Result<String, AllocError> {
-    let at = place(heap, file, text, e.at.0)?;
+pub fn not_sound(heap: Global, file: &str, text: &[u8], e: Unsound) -> Result<String, AllocError>
+    ensures { IfOk result (λ s. Tells file.now text.now e.at.0 (string_bytes s)) }
+{
     let rule = e.rule;
-    format!(in heap; "{at}: not sound: {rule}")
+    let why = format!(in heap; "not sound: {rule}")?;
+    message(heap, file, text, e.at.0, why.as_str())
 }

@@ -1,4 +1,6 @@
 // What comes of a request.
+ghost use Rattle.std.specs.Prelude.{◌≡◌};
+
 use crate::parameters;
 use crate::request::{Request, Stop, number};
 use eval::failure::Failure;
@@ -21,7 +23,9 @@ pub struct Answer {
     pub ended: bool,
 }
 
-pub fn refused<T>(message: String) -> Result<T, Stop> {
+pub fn refused<T>(message: String) -> Result<T, Stop>
+    ensures { result ≡ Err (Stop.Refused message) }
+{
     Err(Stop::Refused(message))
 }
 
@@ -61,7 +65,9 @@ fn refusal<T>(
 ) -> Result<T, Stop> {
     match e {
         Refusal::Memory => Err(Stop::Memory),
-        Refusal::NoProcedure => Err(Stop::Memory),
+        Refusal::NoProcedure => {
+            refused(String::from_str(heap, "there is no procedure at this place")?)
+        }
         Refusal::Count { wanted } => {
             let params = parameters::signature(
                 heap,

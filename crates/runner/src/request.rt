@@ -1,4 +1,7 @@
 // What the words of a command line ask for.
+ghost use Rattle.std.specs.Prelude.{◌≡◌, IfOk};
+ghost use Rattle.std.specs.Str.Parse.{digits_value, without_leading_plus};
+
 use std::alloc::{AllocError, AllocFailed, Global};
 
 pub const HELP: &str = "usage: run FILE PROC NUMBER.. [--choices N,N,..] [--fuel N] [--help]
@@ -57,7 +60,9 @@ enum Next {
 }
 
 // The number that a word is written for.
-pub fn number(heap: Global, word: &str) -> Result<u64, Stop> {
+pub fn number(heap: Global, word: &str) -> Result<u64, Stop>
+    ensures { IfOk result (λ n. n ≡ digits_value 10 (without_leading_plus word.now)) }
+{
     match word.parse::<u64>() {
         Ok(n) => Ok(n),
         Err(_) => Err(Stop::Refused(format!(in heap;

@@ -1,5 +1,5 @@
 -- Soundness as code is gone through: what each instruction has to meet, with the names that there are where it stands.
-use Rattle.std.specs.Prelude.{ℕ, zero, suc, ◌^◌, Bool, true, false, cond, not, ◌&&◌, leb, List, [], ◌∷◌, ◌++◌, map, length, is_some, nat_le, nat_lt}
+use Rattle.std.specs.Prelude.{ℕ, zero, suc, ◌^◌, Bool, true, false, cond, not, ◌&&◌, List, [], ◌∷◌, ◌++◌, map, length, is_some, nat_le, nat_lt}
 use Rattle.lang.specs.Base.{maybe, all_of, Word, distinct}
 use Rattle.lang.specs.Instr.{Instr}
 use Rattle.walk.specs.Roles.{Use, number, row, old_number, old_row, whole, Role, uses, counter, limit, counted, calls, passes, declares, sized, begins, part, leaves, plain, role, ends}
@@ -95,7 +95,7 @@ apart (d ∷ ds) es = not (is_some (find_decl (ds ++ es) d.name)) && apart ds es
 
 -- the parameters ps and locals ls of a procedure
 abbrev pub well_declared : List Decl → List Decl → Bool
-well_declared ps ls = nat_le (length (ps ++ ls)) 64 && (distinct (map decl_name (ps ++ ls)) && all_of (λ d. leb d.size 16) (ps ++ ls))
+well_declared ps ls = nat_le (length (ps ++ ls)) 64 && (distinct (map decl_name (ps ++ ls)) && all_of (λ d. nat_le d.size 16) (ps ++ ls))
 
 -- names of procedures and what is declared in them
 unfoldable pub all_declared : List Proc → Bool

@@ -1,5 +1,5 @@
 // What is declared in a procedure: few names, each once, and short rows.
-ghost use Rattle.std.specs.Prelude.{◌≡◌, leb, ◌++◌, length, is_some, is_ok, nat_le};
+ghost use Rattle.std.specs.Prelude.{◌≡◌, ◌++◌, length, is_some, is_ok, nat_le};
 ghost use Rattle.lang.specs.Base.{all_of};
 ghost use Rattle.sound.specs.Checking.{apart, well_declared};
 ghost use Rattle.lang.specs.Soundness.{find_decl};
@@ -39,7 +39,7 @@ fn check_apart(program: &Program<'_>, from: usize, others: usize) -> Result<(), 
 
 // No row is longer than 16.
 fn check_rows(program: &Program<'_>, from: usize) -> Result<(), Unsound>
-    ensures { is_ok result ≡ all_of (λ d. leb d.size 16) (declared (rest program.now from)) }
+    ensures { is_ok result ≡ all_of (λ d. nat_le d.size 16) (declared (rest program.now from)) }
 {
     let mut i = from;
     while let Some(d) = declarations::at(program, i) {

@@ -150,8 +150,8 @@ module _ (c : Scene) (b : BoolExpr) (first second : Block) (v : SymState) (sound
     first_goes : truth_of (bits c) g test ≡ true → BlockGoes c first → Goes c (run_stmt c (branch b first second)) (changed (branch b first second)) v (walk_stmt (context_of c) v (branch b first second)) g st cs
     unfolding walk_stmt branch_test branch_then branch_end assume assert changed exec
     first_goes e goes =
-        let in-first = reaches_assume tested test reaches_test (fixed true e) in
-        let x = goes (branch_then (context_of c) v b) sounds.1 valid_first g st cs in-first f in
+        let in_first = reaches_assume tested test reaches_test (fixed true e) in
+        let x = goes (branch_then (context_of c) v b) sounds.1 valid_first g st cs in_first f in
         record {
           numbers = x.numbers;
           agrees = x.agrees;
@@ -169,8 +169,8 @@ module _ (c : Scene) (b : BoolExpr) (first second : Block) (v : SymState) (sound
         let l = tested_first.later in
         let again = reaches_resume tested end_first g tested_first reaches_test here in
         let off : (h : ℕ → ℕ) → Agree end_first.next g h → not (truth_of (bits c) h test) ≡ true = λ h a. not_from_false _ (fixed false e h (agree_then end_first.next l here a)) in
-        let in-second = reaches_assume (resume tested end_first) (Formula.negate test) again off in
-        let x = goes (branch_else (context_of c) v b end_first) sounds.2 valid_second g st cs in-second f in
+        let in_second = reaches_assume (resume tested end_first) (Formula.negate test) again off in
+        let x = goes (branch_else (context_of c) v b end_first) sounds.2 valid_second g st cs in_second f in
         let kept = agree_then end_first.next l here x.agrees in
         record {
           numbers = x.numbers;

@@ -133,15 +133,15 @@ module _ (c : Scene) (own : ProcSound c.program c.proc) (q : Proc) (theirs : Pro
         let before = reaches_assert asked _ (reaches_assert v _ r) in
         let new = havocked (bits c) g (names c) xs measured st back.state c.begin before f back.fits back.outside in
         let late = (follows_havoc measured xs).later in
-        let results-are : (h : ℕ → ℕ) → Agree changed_by.next new.numbers h → state_of (bits c) h results ≡ cells =
+        let results_are : (h : ℕ → ℕ) → Agree changed_by.next new.numbers h → state_of (bits c) h results ≡ cells =
         λ h a. some_injective (sym (passed (bits c) h (names c) back.state changed_by.current (knows_now c changed_by new.reaches back.fits h a) q.params xs sizes).is ∙ back.again) in
-        let knows-results : (h : ℕ → ℕ) → Agree changed_by.next new.numbers h → Knows (bits c) h q.params cells results =
+        let knows_results : (h : ℕ → ℕ) → Agree changed_by.next new.numbers h → Knows (bits c) h q.params cells results =
         λ h a.
-        let e = results-are h a in
+        let e = results_are h a in
         let known : Knows (bits c) h q.params (state_of (bits c) h results) results = record { at = knows (bits c) h q.params results (rw e cells_fit) } in
         rw e at known in
         let promised : (h : ℕ → ℕ) → Agree changed_by.next new.numbers h → truth_of (bits c) h (assured (symbolic_bool (setting_of c) results args q.post)) ≡ true =
-        λ h a. holds_assured (bool_agrees (bits c) c.literal c.faithful h 0 q.params q.params cells handed results args q.post (knows-results h a) (knows_args h (agree_then changed_by.next late new.agrees a)) theirs.post) (value_true _ z.promised) in
+        λ h a. holds_assured (bool_agrees (bits c) c.literal c.faithful h 0 q.params q.params cells handed results args q.post (knows_results h a) (knows_args h (agree_then changed_by.next late new.agrees a)) theirs.post) (value_true _ z.promised) in
         record {
           numbers = new.numbers;
           agrees = new.agrees;

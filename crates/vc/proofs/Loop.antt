@@ -125,8 +125,8 @@ module _ (c : Scene) (b i : BoolExpr) (e : Expr) (body : Block) (v : SymState) (
         let test = (judged (context_of c) tested b).formula in
         let old = evaluated (context_of c) tested e in
         let here = agree_same tested.next t.numbers in
-        let true-test : (h : ℕ → ℕ) → Agree tested.next t.numbers h → truth_of (bits c) h test ≡ true = λ h a. some_injective (sym (t.decided h a) ∙ t.decided t.numbers here) ∙ yes' in
-        let begun = reaches_assume tested test t.reaches true-test in
+        let true_test : (h : ℕ → ℕ) → Agree tested.next t.numbers h → truth_of (bits c) h test ≡ true = λ h a. some_injective (sym (t.decided h a) ∙ t.decided t.numbers here) ∙ yes' in
+        let begun = reaches_assume tested test t.reaches true_test in
         let measured = reaches_require (assume tested test) old.safe valid_body begun in
         let y = goes in_body sounds.inner valid_end t.numbers st cs measured x.fits in
         let there = agree_same body_end.next y.numbers in

@@ -213,8 +213,8 @@ module _ (w : ℕ) (lit lit' : ℕ → ℕ) (agree : (n : ℕ) → n < 2 ^ w →
       let place : TwinTerm w g (live w g v && (si && se)) (evaluated k v i).term _ = weaker_term _ (λ q. left_safe (live w g v) si se q) ti.term in
       let safe = twin_conj (twin_both_safe ti.safe te.safe) (twin_inside (weaker_terms (live w g v && (si && se)) (λ q. (and_parts (live w g v) _ q).0) rows) place) in
       let before : live w g (assume (assert v (store_safe k v x i e)) (store_safe k v x i e)) ≡ true → live w g v ≡ true = λ q. (and_parts (live w g v) _ (sym l ∙ q)).0 in
-      let safe-both : live w g (assume (assert v (store_safe k v x i e)) (store_safe k v x i e)) ≡ true → (live w g v && (si && se)) ≡ true = λ q. left_safe (live w g v) (si && se) _ (sym l ∙ q) in
-      twin_current (twin_require p safe) (twin_update x (weaker_twins _ before p.current) (twin_stored 0 (weaker_terms _ before rows) (weaker_term _ safe-both place) (weaker_term _ (λ q. right_part (live w g v) si se (safe-both q)) te.term)))
+      let safe_both : live w g (assume (assert v (store_safe k v x i e)) (store_safe k v x i e)) ≡ true → (live w g v && (si && se)) ≡ true = λ q. left_safe (live w g v) (si && se) _ (sym l ∙ q) in
+      twin_current (twin_require p safe) (twin_update x (weaker_twins _ before p.current) (twin_stored 0 (weaker_terms _ before rows) (weaker_term _ safe_both place) (weaker_term _ (λ q. right_part (live w g v) si se (safe_both q)) te.term)))
 
   check_twin : {v v' : SymState} (b : BoolExpr) → Twin w g v v' → Twin w g (after_check k v b) (after_check k' v' b)
   unfolding after_check
@@ -287,8 +287,8 @@ module _ (w : ℕ) (lit lit' : ℕ → ℕ) (agree : (n : ℕ) → n < 2 ^ w →
     unfolding loop_round assert
     round_twin {a} x q =
         let t = expr_twin q e in
-        let new-safe = truth_of w g (evaluated k a e).safe in
-        let old = weaker_term (live w g a && new-safe) (λ s. live_before w g x (and_parts (live w g a) _ s).0) old_term in
+        let new_safe = truth_of w g (evaluated k a e).safe in
+        let old = weaker_term (live w g a && new_safe) (λ s. live_before w g x (and_parts (live w g a) _ s).0) old_term in
         twin_assert (twin_assert q (twin_assured (bool_twin q i))) (twin_conj t.safe (twin_compare _ t.term old))
 
     end_twin : {a a' : SymState} → Twin w g a a' → Twin w g (loop_end k u b a) (loop_end k' u' b a')

@@ -84,9 +84,9 @@ module _ (q : Proc) (k : List Instr) where
 
   behind_head : (code : List Instr) (h a b l : ℕ) → drop h code ≡ code_head q locals_code → a ≡ min (h + 1 + part_length (role (first (drop h code)))) (length code) → b ≡ min (a + 1 + part_length (role (first (drop a code)))) (length code) → l ≡ min (b + 1 + part_length (role (first (drop b code)))) (length code) → drop l code ≡ locals_code
   behind_head code h a b l here e f g =
-      let at-post = part_skipped code h a _ here e ∙ behind_part (code_bool q.pre) _ (bool_front q.pre) in
-      let at-measure = part_skipped code a b _ at-post f ∙ behind_part (code_bool q.post) _ (bool_front q.post) in
-      part_skipped code b l _ at-measure g ∙ behind_part (code_expr q.measure) _ (expr_front q.measure)
+      let at_post = part_skipped code h a _ here e ∙ behind_part (code_bool q.pre) _ (bool_front q.pre) in
+      let at_measure = part_skipped code a b _ at_post f ∙ behind_part (code_bool q.post) _ (bool_front q.post) in
+      part_skipped code b l _ at_measure g ∙ behind_part (code_expr q.measure) _ (expr_front q.measure)
 
   -- the parameters stand behind the name and the length
   at_params : (code : List Instr) (i r : ℕ) → drop i code ≡ code_proc q k → r ≡ min (i + 2) (length code) → drop r code ≡ code_parts q k
@@ -105,15 +105,15 @@ module _ (q : Proc) (k : List Instr) where
       e ≡ o.locals + 2 * length (declared (rest held o.locals)) →
       o.body ≡ min (e + 1) (length (code_of held)) →
       Laid held o q k
-  laid held i a b e o here is-params is-head is-a is_b is-locals is-e is_IsBody =
+  laid held i a b e o here is_params is_head is_a is_b is_locals is_e is_body =
       let code = code_of held in
       let params = declared_params q.params (code_head q locals_code) params_end in
       let locals = declared_locals q.locals (instr.body (length (code_block q.body [])) ∷ body_code) locals_end in
-      let params-here = at_params code i o.params here is-params in
-      let at_head : rest held o.head ≡ code_head q locals_code = declared_skipped code o.params o.head (code_parts q k) params-here is-head ∙ rw params (behind_params q.params (code_head q locals_code)) in
-      let at-locals : rest held o.locals ≡ locals_code = behind_head code o.head a b o.locals at_head is-a is_b is-locals in
-      let at_body : rest held e ≡ instr.body (length (code_block q.body [])) ∷ body_code = declared_skipped code o.locals e locals_code at-locals is-e ∙ rw locals (behind_locals q.locals (instr.body (length (code_block q.body [])) ∷ body_code)) in
-      record { params = params_are code i o.params here is-params; locals = ap declared at-locals ∙ locals; head = at_head; body = skipped code e o.body _ at_body 1 is_IsBody }
+      let params_here = at_params code i o.params here is_params in
+      let at_head : rest held o.head ≡ code_head q locals_code = declared_skipped code o.params o.head (code_parts q k) params_here is_head ∙ rw params (behind_params q.params (code_head q locals_code)) in
+      let at_locals : rest held o.locals ≡ locals_code = behind_head code o.head a b o.locals at_head is_a is_b is_locals in
+      let at_body : rest held e ≡ instr.body (length (code_block q.body [])) ∷ body_code = declared_skipped code o.locals e locals_code at_locals is_e ∙ rw locals (behind_locals q.locals (instr.body (length (code_block q.body [])) ∷ body_code)) in
+      record { params = params_are code i o.params here is_params; locals = ap declared at_locals ∙ locals; head = at_head; body = skipped code e o.body _ at_body 1 is_body }
 
 parts_front : (q : Proc) → Front (code_parts q)
 parts_front q = then_front (params_front q.params) (then_front (one_front _) (then_front (bool_front q.pre) (then_front (one_front _) (then_front (bool_front q.post) (then_front (one_front _) (then_front (expr_front q.measure) (then_front (locals_front q.locals) (then_front (one_front _) (then_front (block_front q.body) (one_front _))))))))))

@@ -13,5 +13,5 @@ pub returns : goal.returns
 returns c =
     let held = c.args.program.now in
     let u = c.args.fuel in
-    let is-u : u ≡ suc (u - 1) = omega arith in
-    MatchResult-weaker c.finish.result c.finish.ensures (ran held c.args.procedure c.args.numbers.now c.args.choices.now u (u - 1) is-u c.in_ok-o.o c.in_ok-machine.machine c.in_ok-machine.ensures c.in_ok-o.ensures) (λ e is. rw is tt)
+    let is_u : u ≡ suc (u - 1) = omega arith in
+    MatchResult-weaker c.finish.result c.finish.ensures (ran held c.args.procedure c.args.numbers.now c.args.choices.now u (u - 1) is_u c.in_ok-o.o c.in_ok-machine.machine c.in_ok-machine.ensures c.in_ok-o.ensures) (λ e is. rw is tt)
