@@ -1,15 +1,14 @@
 -- How words, runs and tokens are found in a text.
-use Rattle.std.proofs.Common.{◌≡◌, ℕ, suc, ◌+◌, ◌-◌, ◌*◌, ◌^◌, ◌<◌, ◌≤◌, Bool, true, false, cond, ◌&&◌, ◌||◌, eqb, ltb, List, [], ◌∷◌, ◌++◌, length, get_or, take, drop, Some, None, Decides, Option, sym, refl, ap, ◌∙◌, inl, inr, append_assoc, add-zero, arith, lit≤, rules}
-use Rattle.std.proofs.lemmas.Slice.Eq.{compares_Decides}
-use Rattle.std.proofs.lemmas.List.{append-nil, at_drop_more, at_drop_all, drop_all, drop-drop, drop_more, get_or-drop, get_or-take, length-append, length-drop, length-map, length-take}
-use Rattle.std.proofs.lemmas.Bool.{and_parts, cases_Bool, cases_lt, cond_both, le-ltb, lt-ltb, ltb-false, ne_eqb, not-true, or_parts}
-use Rattle.std.specs.Option.{option_or}
+use Rattle.std.proofs.Common.{◌≡◌, ℕ, suc, ◌+◌, ◌-◌, ◌*◌, ◌^◌, ◌<◌, ◌≤◌, Bool, true, false, cond, not, ◌&&◌, ◌||◌, eqb, ltb, List, [], ◌∷◌, ◌++◌, length, get_or, take, drop, Some, None, Option, sym, refl, ap, ◌∙◌, inl, inr, append_assoc, add-zero, arith, lit≤}
+use Rattle.std.proofs.lemmas.List.{append-nil, at_drop_more, at_drop_all, drop-drop, drop_more, get_or-drop, get_or-take, length-append, length-drop, length-map, length-take}
+use Rattle.std.proofs.lemmas.Bool.{and_parts, cases_Bool, cases_lt, cond_both, le-ltb, ltb-false, not-true, eqb-true, or_parts}
+use Rattle.std.specs.List.{prefix_len}
 use Rattle.lang.specs.Ahead.{ahead_by}
-use Rattle.lang.specs.Base.{◌>>=◌, when, maybe, Word, same}
+use Rattle.lang.specs.Base.{◌>>=◌, when, maybe, Word}
 use Rattle.lang.specs.Instr.{run}
-use Rattle.lang.specs.Kinds.{below_limit, in_declarations, in_statements, in_formulas, meant, Nonempty, signs}
+use Rattle.lang.specs.Kinds.{below_limit, meant}
 use Rattle.lang.specs.Places.{begins, in_run, pair, part}
-use Rattle.lang.specs.Tokens.{is_blank, is_letter, is_digit, Scan, between, within, after, note, Step, begin, step, last_word, words_from, token, tokens, spelled, spelling, every_fixed, decimal, written, first, fixed, name, number, stray}
+use Rattle.lang.specs.Tokens.{is_blank, is_letter, is_digit, Scan, between, within, after, note, Step, begin, step, last_word, words_from, token, tokens, spelling, every_fixed, decimal, written, first, fixed, name, number, stray}
 use Rattle.lang.specs.declared.token.Fixed.{Fixed}
 use Rattle.lang.specs.declared.token.Token as declared
 use Rattle.lang.specs.declared.token.Token.TheVariants as the
@@ -23,12 +22,14 @@ module _ (text : List ℕ) (i : ℕ) where
   pub run_more : i < length text → in_run (get_or text i 0) ≡ true → run (drop i text) ≡ get_or text i 0 ∷ run (drop (i + 1) text)
   run_more h e = rw (run_at h, e)
 
-  pub run_stops : i < length text → in_run (get_or text i 0) ≡ false → run (drop i text) ≡ []
-  run_stops h e = rw (run_at h, e)
-
   pub run_past : length text ≤ i → run (drop i text) ≡ []
   unfolding run
   run_past h = at_drop_all run text i h
+
+pub prefix_run : (bs : List ℕ) → prefix_len in_run bs ≡ length (run bs)
+unfolding run
+prefix_run [] = refl
+prefix_run (b ∷ bs) = elim (cases_Bool (in_run b)) [ inl e ↦ rw e (omega (arith, prefix_run bs)) | inr e ↦ rw e ]
 
 take_run : (bs : List ℕ) → take (length (run bs)) bs ≡ run bs
 unfolding run
@@ -48,6 +49,15 @@ words_within w [] = rw append-nil
 words_within w (b ∷ bs) =
     elim (cases_Bool (in_run b)) [ inl e ↦ rw e (simp append_assoc at (words_within (w ++ b ∷ []) bs)) | inr e ↦ simp (e, append-nil) ]
 
+abbrev pub in_line : ℕ → Bool
+in_line b = not (eqb b 10)
+
+-- a note goes up to the end of its line
+pub words_behind_note : (bs : List ℕ) → words_from between (drop (prefix_len in_line bs) bs) ≡ words_from note bs
+unfolding words_from
+words_behind_note [] = refl
+words_behind_note (b ∷ bs) = elim (cases_Bool (eqb b 10)) [ inl e ↦ rw (eqb-true b 10 e) refl | inr e ↦ rw e (ap (words_from between) (sym (drop-drop (prefix_len in_line bs) 1 (b ∷ bs))) ∙ words_behind_note bs) ]
+
 -- Where words begin.
 module _ (text : List ℕ) (i : ℕ) where
   words_at : (s : Scan) → i < length text → words_from s (drop i text) ≡ (step s (get_or text i 0)).words ++ words_from (step s (get_or text i 0)).next (drop (i + 1) text)
@@ -63,13 +73,6 @@ module _ (text : List ℕ) (i : ℕ) where
 
   pub words_noted : i < length text → get_or text i 0 ≡ 35 → words_from between (drop i text) ≡ words_from note (drop (i + 1) text)
   words_noted h e = rw (words_at between h, e)
-
-  pub words_note : i < length text → (get_or text i 0 ≡ 10 → ⊥) → words_from note (drop i text) ≡ words_from note (drop (i + 1) text)
-  words_note h e = rw (words_at note h, ne_eqb (get_or text i 0) 10 e)
-
-  -- the end of a line parts words
-  pub words_line : i < length text → get_or text i 0 ≡ 10 → words_from note (drop i text) ≡ words_from between (drop i text)
-  words_line h e = rw (words_at note h, words_at between h, e)
 
   -- = or < by itself
   words_after : (a : ℕ) → (i < length text → (eqb (get_or text i 0) 61 || (eqb a 61 && eqb (get_or text i 0) 62)) ≡ false) → words_from (after a) (drop i text) ≡ (a ∷ []) ∷ words_from between (drop i text)
@@ -116,16 +119,6 @@ part_two text i h =
     let first : i < length text = omega arith in
     rw (size, drop_more text i 0 first, drop_more text (i + 1) 0 h)
 
--- Words that are always spelled the same.
-spelling_or : (xs ys : List Fixed) (w : Word) → spelling (xs ++ ys) w ≡ option_or (spelling xs w) (spelling ys w)
-spelling_or [] ys w = refl
-spelling_or (f ∷ xs) ys w = elim (cases_Bool (same (spelled f) w)) [ inl e ↦ rw e | inr e ↦ rw e (spelling_or xs ys w) ]
-
-pub spelling_every : (w : Word) → spelling every_fixed w ≡ option_or (option_or (option_or (spelling in_declarations w) (spelling in_statements w)) (spelling in_formulas w)) (spelling signs w)
-spelling_every w =
-    spelling_or ((in_declarations ++ in_statements) ++ in_formulas) signs w ∙
-    ap (λ o. option_or o (spelling signs w)) (spelling_or (in_declarations ++ in_statements) in_formulas w ∙ ap (λ o. option_or o (spelling in_formulas w)) (spelling_or in_declarations in_statements w))
-
 -- Numbers. Once past 2^64, a number with more digits stays past it.
 too_large : (n : ℕ) (w : Word) → 2 ^ 64 ≤ n → (decimal n w >>= below_limit) ≡ None
 too_large n [] h = rw (le-ltb n (2 ^ 64) h)
@@ -138,9 +131,6 @@ decimal_cons n b w =
 -- one digit of a number, at a place of its word
 pub decimal_more : (n : ℕ) (w : Word) (i : ℕ) (o : Option ℕ) → i < length w → o ≡ when (is_digit (get_or w i 0)) (below_limit (n * 10 + (get_or w i 0 - 48))) → (decimal n (drop i w) >>= below_limit) ≡ (o >>= λ m. decimal m (drop (i + 1) w) >>= below_limit)
 decimal_more n w i o h e = rw (e, drop_more w i 0 h) (decimal_cons n (get_or w i 0) (drop (i + 1) w))
-
-pub decimal_all : (n : ℕ) (w : Word) (i : ℕ) → length w ≤ i → n < 2 ^ 64 → (decimal n (drop i w) >>= below_limit) ≡ Some n
-decimal_all n w i h l = rw (drop_all i w h, lt-ltb n (2 ^ 64) l)
 
 -- Which token a word is.
 first_is : (w : Word) → first w ≡ get_or w 0 0
@@ -209,17 +199,6 @@ ahead_word text start end t h e whole m =
     let rest = tokens (drop end text) in
     let known : in_run (get_or w 0 0) ≡ true → w ≡ run (drop start text) = rw (get_or_part text start end h) whole in
     ahead_meant text start end t w m ∙ ap (λ ts. ts ++ rest) (meant_at (run (drop start text)) w t known m ∙ m) ∙ sym (tokens_word text start end e)
-
-pub nonempty_word : (t : declared.Token) (start end : ℕ) → start < end → Nonempty t start end
-nonempty_word (the.Fixed f) start end h = h
-nonempty_word the.Name start end h = h
-nonempty_word the.Number start end h = h
-nonempty_word the.Stray start end h = h
-nonempty_word the.End start end h = tt
-
--- Names.
-pub same_decides : (v w : Word) → Decides (same v w) (v ≡ w)
-same_decides v w = compares_Decides same (search rules) v w
 
 -- How many tokens there are: each byte adds one word at most, the one that is begun counted in.
 abbrev open_words : Step → ℕ

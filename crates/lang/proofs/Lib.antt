@@ -1,4 +1,5 @@
 pub mod Lexing
-pub mod Spellings
 pub mod Codes
 pub mod Positions
+pub mod Widths
+pub mod Sameness

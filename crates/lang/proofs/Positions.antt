@@ -1,7 +1,7 @@
 -- Lines and columns, one byte after the other.
-use Rattle.std.proofs.Common.{◌≡◌, ℕ, ◌+◌, ◌<◌, ◌≤◌, min, List, length, get_or, take, drop, sym, ap, ◌∙◌, inl, inr, arith}
-use Rattle.std.proofs.lemmas.List.{drop_more, drop_all, take_all}
-use Rattle.std.proofs.lemmas.Bool.{cases_lt, eq-eqb, ne_eqb}
+use Rattle.std.proofs.Common.{◌≡◌, ℕ, ◌+◌, ◌<◌, ◌≤◌, List, length, get_or, drop, sym, ap, ◌∙◌}
+use Rattle.std.proofs.lemmas.List.{drop_more, drop_all}
+use Rattle.std.proofs.lemmas.Bool.{eq-eqb, ne_eqb}
 use Rattle.lang.specs.Positions.{past, past_all}
 use Rattle.lang.specs.declared.position.Position.{Position}
 
@@ -18,10 +18,3 @@ past_more p q bs i h e = ap (λ r. past_all r (drop (i + 1) bs)) e ∙ sym (ap (
 pub past_end : (p : Position) (bs : List ℕ) (i : ℕ) → length bs ≤ i → past_all p (drop i bs) ≡ p
 unfolding past_all
 past_end p bs i h = ap (past_all p) (drop_all i bs h)
-
-pub take_min : (bs : List ℕ) (n : ℕ) → take (min n (length bs)) bs ≡ take n bs
-take_min bs n =
-    elim (cases_lt n (length bs)) [
-      | inl h ↦ let e : min n (length bs) ≡ n = omega arith in rw e
-      | inr h ↦ let e : min n (length bs) ≡ length bs = omega arith in rw e (take_all (length bs) bs (omega arith) ∙ sym (take_all n bs h))
-    ]

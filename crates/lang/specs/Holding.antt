@@ -11,5 +11,5 @@ abbrev pub code_of : Program → List Instr
 code_of held = map (instr held.text.now) (kept node held.code)
 
 pub record Holds (held : Program) (p : syntax.Program) : Type 0 where
-  pub width : held.width ≡ p.width
+  pub width : held.width.0 ≡ p.width
   pub code : code_of held ≡ code_procs p.procs []

@@ -4,23 +4,8 @@ use Rattle.std.specs.Option.{unwrap_or}
 use Rattle.lang.specs.Base.{when, Word}
 use Rattle.lang.specs.Tokens as tokens
 use Rattle.lang.specs.Tokens.{written}
-use Rattle.lang.specs.declared.token.Fixed as declared
-use Rattle.lang.specs.declared.token.Fixed.TheVariants.{Width, Proc, Pre, Post, Measure, Var, If, Else, While, Keep, Check, Any, Old, Yes, Not, And, Or, All, LeftParen, RightParen, LeftBracket, RightBracket, LeftBrace, RightBrace, Comma, Semicolon, Gets, Equals, Implies, LessThan, AtMost, Plus, Minus, Times, Over, Percent}
 use Rattle.lang.specs.declared.token.Token.{Token}
 use Rattle.lang.specs.declared.token.Token.TheVariants.{Fixed, Name, Number, Stray, End}
-
--- every word and sign that is always spelled the same, in four parts
-abbrev pub in_declarations : List declared.Fixed
-in_declarations = Width ∷ Proc ∷ Pre ∷ Post ∷ Measure ∷ Var ∷ []
-
-abbrev pub in_statements : List declared.Fixed
-in_statements = If ∷ Else ∷ While ∷ Keep ∷ Check ∷ Any ∷ []
-
-abbrev pub in_formulas : List declared.Fixed
-in_formulas = Old ∷ Yes ∷ Not ∷ And ∷ Or ∷ All ∷ []
-
-abbrev pub signs : List declared.Fixed
-signs = LeftParen ∷ RightParen ∷ LeftBracket ∷ RightBracket ∷ LeftBrace ∷ RightBrace ∷ Comma ∷ Semicolon ∷ Gets ∷ Equals ∷ Implies ∷ LessThan ∷ AtMost ∷ Plus ∷ Minus ∷ Times ∷ Over ∷ Percent ∷ []
 
 -- the token that a word of this kind is; none at the end
 abbrev pub meant : Word → Token → List tokens.Token

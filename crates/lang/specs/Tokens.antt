@@ -1,5 +1,5 @@
 -- From bytes to tokens.
-use Rattle.std.specs.Prelude.{ℕ, ◌+◌, ◌-◌, ◌*◌, ◌^◌, Bool, cond, ◌&&◌, ◌||◌, List, [], ◌∷◌, ◌++◌, map, Some, None, codes, Option, ◌==◌, nat_le, nat_lt}
+use Rattle.std.specs.Prelude.{ℕ, ◌+◌, ◌-◌, ◌*◌, ◌^◌, Bool, cond, ◌&&◌, ◌||◌, List, [], ◌∷◌, ◌++◌, find, map, Some, codes, Option, ◌==◌, nat_le, nat_lt}
 use Rattle.lang.specs.Base.{◌>>=◌, when, maybe, Word, same}
 use Rattle.lang.specs.declared.token.Fixed.{Fixed}
 use Rattle.lang.specs.declared.token.Fixed.TheVariants.{Width, Proc, Pre, Post, Measure, Var, If, Else, While, Keep, Check, Any, Old, Yes, Not, And, Or, All, LeftParen, RightParen, LeftBracket, RightBracket, LeftBrace, RightBrace, Comma, Semicolon, Gets, Equals, Implies, LessThan, AtMost, Plus, Minus, Times, Over, Percent}
@@ -99,9 +99,9 @@ spelled Percent = codes "%"
 abbrev pub every_fixed : List Fixed
 every_fixed = Width ∷ Proc ∷ Pre ∷ Post ∷ Measure ∷ Var ∷ If ∷ Else ∷ While ∷ Keep ∷ Check ∷ Any ∷ Old ∷ Yes ∷ Not ∷ And ∷ Or ∷ All ∷ LeftParen ∷ RightParen ∷ LeftBracket ∷ RightBracket ∷ LeftBrace ∷ RightBrace ∷ Comma ∷ Semicolon ∷ Gets ∷ Equals ∷ Implies ∷ LessThan ∷ AtMost ∷ Plus ∷ Minus ∷ Times ∷ Over ∷ Percent ∷ []
 
+-- the first of them that is spelled so
 abbrev pub spelling : List Fixed → Word → Option Fixed
-spelling [] w = None
-spelling (f ∷ fs) w = cond (same (spelled f) w) (Some f) (spelling fs w)
+spelling fs w = find (λ f. same (spelled f) w) fs
 
 abbrev pub first : Word → ℕ
 first [] = 0

@@ -5,11 +5,11 @@ pub mod record;
 use crate::syntax::{ArithOp, Comparison};
 
 // A byte of the text. A name or a number is given by the place where it begins.
-#[derive(Clone, Copy)]
+#[derive(Clone, Copy, PartialEq, Eq, Debug)]
 pub struct Place(pub usize);
 
 // Each with the place of its name, number or sign, or with how many nodes the part behind it has.
-#[derive(Clone, Copy)]
+#[derive(Clone, Copy, PartialEq, Eq, Debug)]
 pub enum Node {
     Num(Place),
     Var(Place),

@@ -7,3 +7,4 @@ pub mod program;
 pub mod scan;
 pub mod syntax;
 pub mod token;
+pub mod width;

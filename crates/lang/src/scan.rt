@@ -15,7 +15,7 @@ use kinds::{decimal, kind};
 use words::{run_end, skip, word_end};
 
 // The token at hand: the bytes from `start` up to `end`.
-#[derive(Clone, Copy)]
+#[derive(Clone, Copy, PartialEq, Eq, Debug)]
 pub struct Cursor {
     pub start: usize,
     pub end: usize,
@@ -54,7 +54,7 @@ pub fn name(text: &[u8], at: usize) -> &[u8]
     }
 }
 
-// The number that is written at `at`.
+// The number that is written at `at`; 0 where none is, as the definition has it.
 pub fn number_at(text: &[u8], at: usize) -> u64
     ensures { result ≡ number_at text.now at }
 {
@@ -62,6 +62,7 @@ pub fn number_at(text: &[u8], at: usize) -> u64
 }
 
 // Whether the name at `at` is these bytes.
+#[tactic(auto, using(crate::proofs::Sameness::pointwise_same))]
 pub fn has_name(text: &[u8], at: usize, word: &[u8]) -> bool
     ensures { result ≡ same (name_at text.now at) word.now }
 {
@@ -69,8 +70,9 @@ pub fn has_name(text: &[u8], at: usize, word: &[u8]) -> bool
 }
 
 // Whether the names at `a` and `b` are the same.
+#[tactic(auto, using(crate::proofs::Sameness::pointwise_same))]
 pub fn same_name(text: &[u8], a: usize, b: usize) -> bool
     ensures { result ≡ same (name_at text.now a) (name_at text.now b) }
 {
-    name(text, a) == name(text, b)
+    has_name(text, a, name(text, b))
 }

@@ -1,6 +1,6 @@
 // The operators of expressions.
 
-#[derive(Clone, Copy)]
+#[derive(Clone, Copy, PartialEq, Eq, Debug)]
 pub enum ArithOp {
     Add,
     Sub,
@@ -9,7 +9,7 @@ pub enum ArithOp {
     Rem,
 }
 
-#[derive(Clone, Copy)]
+#[derive(Clone, Copy, PartialEq, Eq, Debug)]
 pub enum Comparison {
     Equal,
     Less,

@@ -6,7 +6,7 @@ ghost use Rattle.lang.specs.Tokens.{spelled};
 use std::fmt;
 
 // Words and signs that are always spelled the same.
-#[derive(Clone, Copy)]
+#[derive(Clone, Copy, PartialEq, Eq, Debug)]
 pub enum Fixed {
     Width,
     Proc,
@@ -47,7 +47,7 @@ pub enum Fixed {
 }
 
 // A token by its kind. Which name or number it is, is told by the place where it stands.
-#[derive(Clone, Copy)]
+#[derive(Clone, Copy, PartialEq, Eq, Debug)]
 pub enum Token {
     Fixed(Fixed),
     Name,
@@ -59,10 +59,57 @@ pub enum Token {
 }
 
 impl Fixed {
+    // All of them, in the order in which a text's words are looked for.
+    pub(crate) const EVERY: [Fixed; 36] = [
+        Fixed::Width,
+        Fixed::Proc,
+        Fixed::Pre,
+        Fixed::Post,
+        Fixed::Measure,
+        Fixed::Var,
+        Fixed::If,
+        Fixed::Else,
+        Fixed::While,
+        Fixed::Keep,
+        Fixed::Check,
+        Fixed::Any,
+        Fixed::Old,
+        Fixed::Yes,
+        Fixed::Not,
+        Fixed::And,
+        Fixed::Or,
+        Fixed::All,
+        Fixed::LeftParen,
+        Fixed::RightParen,
+        Fixed::LeftBracket,
+        Fixed::RightBracket,
+        Fixed::LeftBrace,
+        Fixed::RightBrace,
+        Fixed::Comma,
+        Fixed::Semicolon,
+        Fixed::Gets,
+        Fixed::Equals,
+        Fixed::Implies,
+        Fixed::LessThan,
+        Fixed::AtMost,
+        Fixed::Plus,
+        Fixed::Minus,
+        Fixed::Times,
+        Fixed::Over,
+        Fixed::Percent,
+    ];
+
     pub fn is(self, other: Fixed) -> bool
         ensures { result ≡ same (spelled self) (spelled other) }
     {
-        self as u8 == other as u8
+        self == other
+    }
+
+    #[tactic(auto, using(crate::proofs::Sameness::pointwise_same))]
+    pub fn is_spelled(self, word: &[u8]) -> bool
+        ensures { result ≡ same (spelled self) word.now }
+    {
+        self.spelling().as_bytes() == word
     }
 
     pub fn spelling(self) -> &'static str
@@ -109,6 +156,7 @@ impl Fixed {
     }
 }
 
+// By hand: a word prints as its spelling.
 impl fmt::Display for Fixed {
     fn fmt<W: fmt::Write>(&self, f: &mut fmt::Formatter<W>) -> fmt::Result {
         f.write_str(self.spelling())

@@ -1,9 +1,6 @@
--- How records lie in words: two words each, one record after the other.
-use Rattle.std.specs.Prelude.{ℕ, zero, suc, List, [], ◌∷◌}
+-- How a record lies in words: two words for each.
+use Rattle.std.specs.Prelude.{ℕ, List, slice_index}
 
--- the first n records of a row of words, by the function that reads one back from its two words
-abbrev pub records : {R : Type 0} → (ℕ → ℕ → R) → ℕ → List ℕ → List R
-records decoded zero ws = []
-records decoded (suc n) [] = []
-records decoded (suc n) (a ∷ []) = []
-records decoded (suc n) (a ∷ b ∷ ws) = decoded a b ∷ records decoded n ws
+-- the record in a pair of words, by the function that reads one back from its two words
+abbrev pub record_in : {R : Type 0} → (ℕ → ℕ → R) → List ℕ → R
+record_in decoded pair = decoded (slice_index pair 0) (slice_index pair 1)

@@ -1,8 +1,8 @@
 -- What a view holds.
-use Rattle.std.specs.Prelude.{ℕ, ◌/◌, List, length}
+use Rattle.std.specs.Prelude.{ℕ, List, map}
 use Rattle.lent.specs.declared.view.View.{View}
-use Rattle.lent.specs.Layout.{records}
+use Rattle.lent.specs.Layout.{record_in}
 
 -- the records that a view shows, by the function that reads one back from its two words
 abbrev pub kept : {R : Type 0} → (ℕ → ℕ → R) → View R → List R
-kept decoded v = records decoded (length v.words.now / 2) v.words.now
+kept decoded v = map (record_in decoded) v.pairs.now

@@ -1,5 +1,8 @@
 // A table of records over a row of lent words, two words for each record.
-ghost use Rattle.std.specs.Prelude.{◌≡◌, ℕ, ◌*◌, ◌≤◌, length};
+ghost use Rattle.std.specs.Prelude.{◌≡◌, ℕ, ◌≤◌, length};
+
+use std::marker::PhantomData;
+use thiserror::Error;
 
 mod methods;
 
@@ -14,8 +17,8 @@ pub trait Record: Copy {
         ensures { result ≡ decoded a b };
 }
 
-// The table has no room for another record.
-#[derive(Clone, Copy, Debug)]
+#[derive(Clone, Copy, PartialEq, Eq, Debug, Error)]
+#[error("the table has no room for another record")]
 pub struct Full;
 
 // How many records a table had when it was marked: a table is a stack, and `release` takes off what was pushed since.
@@ -24,11 +27,11 @@ pub struct Mark {
     height: usize,
 }
 
-// The first `len` records stand in the first 2 * `len` words.
+// The records stand in the first `len` pairs: lent words and a length, no `Vec`, since reading allocates nothing.
 #[derive(Drop)]
 pub struct Table<'a, R> {
-    words: &'a mut [u64],
+    pairs: &'a mut [[u64; 2]],
     len: usize,
-    kind: &'a [R],
-    ghost within: { 2 * len ≤ length words.now },
+    kind: PhantomData<R>,
+    ghost within: { len ≤ length pairs.now },
 }

@@ -1,16 +1,10 @@
 // A table of records that is only read: a shared loan of its words, which can be copied and kept in other structs.
+use std::marker::PhantomData;
 
 mod methods;
 
+#[derive_where(Clone, Copy)]
 pub struct View<'a, R> {
-    pub words: &'a [u64],
-    pub kind: &'a [R],
-}
-
-impl<R> Copy for View<'_, R> {}
-
-impl<R> Clone for View<'_, R> {
-    fn clone(&self) -> Result<Self, std::alloc::AllocError> {
-        Ok(*self)
-    }
+    pub pairs: &'a [[u64; 2]],
+    pub kind: PhantomData<R>,
 }

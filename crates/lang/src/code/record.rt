@@ -1,4 +1,5 @@
-// How a node is written into two words: what it holds, and a number for its kind.
+// How a node is written into two words: what it holds, and a number for its kind. The words are lent, and hold numbers only;
+// each kind has a row in both tables, operators too, so that each number is seen to be read back as what wrote it.
 ghost use Rattle.std.specs.Prelude.{◌≡◌, ◌<◌, ◌≤◌};
 ghost use Rattle.lang.specs.Layout.{node};
 

@@ -6,13 +6,13 @@ ghost use Rattle.lang.specs.Tokens.{is_blank, is_digit, is_letter};
 pub fn is_digit(b: u8) -> bool
     ensures { result ≡ is_digit b }
 {
-    b >= b'0' && b <= b'9'
+    b.is_ascii_digit()
 }
 
 pub fn is_letter(b: u8) -> bool
     ensures { result ≡ is_letter b }
 {
-    (b >= b'a' && b <= b'z') || (b >= b'A' && b <= b'Z') || b == b'_'
+    b.is_ascii_alphabetic() || b == b'_'
 }
 
 // A byte of a name or a number.
@@ -25,12 +25,12 @@ pub fn is_run(b: u8) -> bool
 pub fn is_blank(b: u8) -> bool
     ensures { result ≡ is_blank b }
 {
-    b == b' ' || b == b'\n' || b == b'\r' || b == b'\t'
+    matches!(b, b' ' | b'\n' | b'\r' | b'\t')
 }
 
 // Two bytes that are one sign.
 pub fn is_pair(a: u8, b: u8) -> bool
     ensures { result ≡ pair a b }
 {
-    (a == b'=' || a == b'<') && (b == b'=' || (a == b'=' && b == b'>'))
+    matches!((a, b), (b'=' | b'<', b'=') | (b'=', b'>'))
 }

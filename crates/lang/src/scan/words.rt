@@ -8,29 +8,23 @@ use super::bytes::{is_blank, is_pair, is_run};
 
 // The end of the run of letters and digits that begins at `from`.
 pub fn run_end(text: &[u8], from: usize) -> usize
+    requires { from ≤ length text.now }
     ensures { result ≡ from + length (name_at text.now from) }
 {
-    let mut i = from;
-    while i < text.len() && is_run(text[i]) {
-        i += 1;
-    }
-    i
+    from + text[from..].iter().take_while(|b| is_run(**b)).count()
 }
 
 // The end of the line, for a note that `from` is in.
 fn line_end(text: &[u8], from: usize) -> usize
+    requires { from ≤ length text.now }
     ensures words { words_from between (drop result text.now) ≡ words_from note (drop from text.now) }
     ensures start { from ≤ result }
-    ensures within { result ≤ max from (length text.now) }
+    ensures within { result ≤ length text.now }
 {
-    let mut i = from;
-    while i < text.len() && text[i] != b'\n' {
-        i += 1;
-    }
-    i
+    from + text[from..].iter().take_while(|b| **b != b'\n').count()
 }
 
-// Past blanks and notes, to the next word or the end of the text.
+// Past blanks and notes, to the next word or the end of the text. By index: a blank is one byte, a note a line.
 pub fn skip(text: &[u8], from: usize) -> usize
     ensures words { words_from between (drop result text.now) ≡ words_from between (drop from text.now) }
     ensures start { from ≤ result }

@@ -6,6 +6,7 @@ ghost use Rattle.lent.specs.Views.{kept};
 
 use super::{Full, Mark, Record, Table};
 use crate::view::View;
+use std::marker::PhantomData;
 
 impl<'a, R: Record> Table<'a, R> {
     // An empty table over all the words.
@@ -14,9 +15,9 @@ impl<'a, R: Record> Table<'a, R> {
         ensures capacity { capacity result ≡ length words.old / 2 }
     {
         Table {
-            words,
+            pairs: words.as_chunks_mut().0,
             len: 0,
-            kind: &[],
+            kind: PhantomData,
         }
     }
 
@@ -29,10 +30,8 @@ impl<'a, R: Record> Table<'a, R> {
     pub fn get(&self, i: usize) -> Option<R>
         ensures { result ≡ slice_get (items R.decoded self.now) i }
     {
-        if i >= self.len {
-            return None;
-        }
-        Some(R::decode(self.words[2 * i], self.words[2 * i + 1]))
+        let [a, b] = *self.pairs[..self.len].get(i)?;
+        Some(R::decode(a, b))
     }
 
     // One record more at the end, or a refusal that leaves the table as it was.
@@ -40,30 +39,27 @@ impl<'a, R: Record> Table<'a, R> {
         ensures cases { MatchResult result (λ _. items R.decoded self.new ≡ items R.decoded self.old ++ x ∷ []) (λ _. (items R.decoded self.new ≡ items R.decoded self.old) × (capacity self.old ≤ length (items R.decoded self.old))) }
         ensures capacity { capacity self.new ≡ capacity self.old }
     {
-        let at = self.len;
-        if at >= self.words.len() / 2 {
+        if self.len >= self.pairs.len() {
             return Err(Full);
         }
         let (a, b) = x.encode();
-        self.words[2 * at] = a;
-        self.words[2 * at + 1] = b;
-        self.len = at + 1;
+        self.pairs[self.len] = [a, b];
+        self.len += 1;
         Ok(())
     }
 
-    // Writes another record in the place of the one at `i`; false, with nothing changed, where there is none.
-    pub fn set(&mut self, i: usize, x: R) -> bool
+    // Writes another record in the place of the one at `i`, and gives the one that stood there. Nothing changes where none did.
+    pub fn set(&mut self, i: usize, x: R) -> Option<R>
         ensures items { items R.decoded self.new ≡ slice_set (items R.decoded self.old) i x }
-        ensures found { result ≡ nat_lt i (length (items R.decoded self.old)) }
+        ensures replaced { result ≡ slice_get (items R.decoded self.old) i }
         ensures capacity { capacity self.new ≡ capacity self.old }
     {
-        if i >= self.len {
-            return false;
+        let replaced = self.get(i);
+        if i < self.len {
+            let (a, b) = x.encode();
+            self.pairs[i] = [a, b];
         }
-        let (a, b) = x.encode();
-        self.words[2 * i] = a;
-        self.words[2 * i + 1] = b;
-        true
+        replaced
     }
 
     // The last record, taken off the table.
@@ -72,11 +68,9 @@ impl<'a, R: Record> Table<'a, R> {
         ensures capacity { capacity self.new ≡ capacity self.old }
         ensures test { is_some result ≡ nat_lt 0 (length (items R.decoded self.old)) }
     {
-        if self.len == 0 {
-            return None;
-        }
-        self.len -= 1;
-        Some(R::decode(self.words[2 * self.len], self.words[2 * self.len + 1]))
+        self.len = self.len.checked_sub(1)?;
+        let [a, b] = self.pairs[self.len];
+        Some(R::decode(a, b))
     }
 
     // Keeps the first `n` records, or all if there are no more.
@@ -109,12 +103,11 @@ impl<'a, R: Record> Table<'a, R> {
         ensures items { items R.decoded self.new ≡ [] }
         ensures capacity { capacity self.new ≡ 0 }
     {
-        let len = self.len;
-        self.len = 0;
-        let words: &'a mut [u64] = std::mem::replace(&mut self.words, &mut []);
+        let len = std::mem::take(&mut self.len);
+        let pairs: &'a mut [[u64; 2]] = std::mem::take(&mut self.pairs);
         View {
-            words: &words[0..2 * len],
-            kind: self.kind,
+            pairs: &pairs[..len],
+            kind: PhantomData,
         }
     }
 }

@@ -9,15 +9,14 @@ impl<'a, R: Record> View<'a, R> {
     pub fn len(&self) -> usize
         ensures { result ≡ length (kept R.decoded self.now) }
     {
-        self.words.len() / 2
+        self.pairs.len()
     }
 
+    // The two lines of a table's `get` again: a function for both would be longer.
     pub fn get(&self, i: usize) -> Option<R>
         ensures { result ≡ slice_get (kept R.decoded self.now) i }
     {
-        if i >= self.words.len() / 2 {
-            return None;
-        }
-        Some(R::decode(self.words[2 * i], self.words[2 * i + 1]))
+        let [a, b] = *self.pairs.get(i)?;
+        Some(R::decode(a, b))
     }
 }

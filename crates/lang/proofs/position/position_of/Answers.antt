@@ -1,6 +1,7 @@
 use Rattle.std.proofs.Common.{take, sym, ap, ◌∙◌, arith}
+use Rattle.std.proofs.lemmas.List.{take_min}
 use Rattle.lang.specs.Positions.{position_behind}
-use Rattle.lang.proofs.Positions.{past_feed, past_other, past_more, past_end, take_min}
+use Rattle.lang.proofs.Positions.{past_feed, past_other, past_more, past_end}
 use Rattle.lang.proofs.position.position_of.Goals as goal
 use Rattle.lang.proofs.position.position_of.Goals.{then-b-eq10, else-b-eq10}
 
@@ -14,4 +15,4 @@ loop-b-preserved c =
     ]
 
 pub returns : goal.returns
-returns c = sym (past_end c.loop-b.p _ c.loop-b.b-index c.loop-b-test.false) ∙ c.loop-b.invariant.0 ∙ ap (λ n. position_behind (take n c.args.text.now)) c.min.ensures ∙ ap position_behind (take_min c.args.text.now c.args.at)
+returns c = sym (past_end c.loop-b.p _ c.loop-b.b-index c.loop-b-test.false) ∙ c.loop-b.invariant.0 ∙ ap (λ n. position_behind (take n c.args.text.now)) c.min.ensures ∙ ap position_behind (take_min c.args.at c.args.text.now)

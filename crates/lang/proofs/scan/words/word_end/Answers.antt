@@ -1,5 +1,4 @@
 use Rattle.std.proofs.Common.{◌≡◌, ◌+◌, ◌<◌, ◌≤◌, false, length, get_or, sym, ap, arith}
-use Rattle.std.proofs.lemmas.Bool.{both_ways}
 use Rattle.lang.specs.Places.{pair}
 use Rattle.lang.proofs.Lexing.{run_more, run_within, words_run, words_one, words_two, part_run, part_one, part_two}
 use Rattle.lang.proofs.scan.words.word_end.Goals as goal
@@ -19,29 +18,17 @@ returns-then-is_run c =
       within = omega (arith, run_within text from fits);
     }
 
-pub returns-then-is_pair : goal.returns-then-is_pair
-returns-then-is_pair c =
+pub returns-then-is_pair-clause-words : goal.returns-then-is_pair-clause-words
+returns-then-is_pair-clause-words c =
     let text = c.args.text.now in
     let from = c.args.from in
     let more = c.if-from-text.true in
-    let e = sym c.if-is_run.ensures in
-    record {
-      words = rw (part_two text from more) (words_two text from c.requires.inside c.requires.word e more (sym c.if-is_pair.ensures));
-      run = λ f. absurd (both_ways _ e f);
-      start = omega arith;
-      within = omega arith;
-    }
+    rw (part_two text from more) (words_two text from c.requires.inside c.requires.word (sym c.if-is_run.ensures) more (sym c.if-is_pair.ensures))
 
-pub returns-else-from-text : goal.returns-else-from-text
-returns-else-from-text c =
+pub returns-else-from-text-clause-words : goal.returns-else-from-text-clause-words
+returns-else-from-text-clause-words c =
     let text = c.args.text.now in
     let from = c.args.from in
-    let e = sym c.if-is_run.ensures in
     let single : from + 1 < length text → pair (get_or text from 0) (get_or text (from + 1) 0) ≡ false =
     elim c.else-from-text.branch [ else-from-text-via-then-from-text+else-is_pair w ↦ λ _. sym w.if-is_pair.ensures | else-from-text-via-else-from-text w ↦ λ h. absurd (omega arith) ] in
-    record {
-      words = rw (part_one text from c.requires.inside) (words_one text from c.requires.inside c.requires.word e single);
-      run = λ f. absurd (both_ways _ e f);
-      start = omega arith;
-      within = omega arith;
-    }
+    rw (part_one text from c.requires.inside) (words_one text from c.requires.inside c.requires.word (sym c.if-is_run.ensures) single)
