@@ -1,14 +1,12 @@
 -- A word, a piece and a semicolon.
-use Rattle.std.proofs.Common.{◌≡◌, List, ◌++◌, Some, None, sym, ap, ◌∙◌, subst}
+use Rattle.std.proofs.Common.{◌≡◌, List, ◌++◌, Some, None, ap, ◌∙◌}
 use Rattle.lang.specs.Base.{◌>>=◌}
 use Rattle.lang.specs.Grammar.{Parsed, expect}
 use Rattle.lang.specs.Instr.{Instr}
 use Rattle.lang.specs.Tokens.{Token}
 use Rattle.lang.specs.declared.token.Fixed.{Fixed}
 use Rattle.lang.specs.declared.token.Fixed.TheVariants.{Semicolon}
-use Rattle.parse.specs.Reading.{Snap, Read, Paid, advanced, emitted}
-use Rattle.parse.proofs.Heads.{expect_starts}
-use Rattle.parse.proofs.Rooms.{paid_then, paid_item, paid_advance}
+use Rattle.parse.specs.Reading.{Snap, Read, advanced}
 
 module _ {A : Type 0} (word : Fixed) (piece whole : List Token → Parsed A) (coding : A → List Instr) (rule : (ts : List Token) → whole ts ≡ (expect word ts >>= λ us. piece us >>= λ p. expect Semicolon p.1 >>= λ ws. Some (p.0, ws))) (s : Snap) where
   pub clause_none : expect word s.ahead ≡ None → whole s.ahead ≡ None
@@ -17,9 +15,6 @@ module _ {A : Type 0} (word : Fixed) (piece whole : List Token → Parsed A) (co
   module _ (t : Snap) (first : t ≡ advanced s) (e : expect word s.ahead ≡ Some t.ahead) where
     pub clause_unread : piece t.ahead ≡ None → whole s.ahead ≡ None
     clause_unread n = rw (rule s.ahead, e, n)
-
-    pub clause_room : (i : Instr) → Paid s (emitted i t)
-    clause_room i = subst (λ r. Paid s (emitted i r)) (sym first) (paid_item s i (expect_starts word s.ahead t.ahead e))
 
     module _ (u : Snap) (h : Read piece coding t u) where
       pub clause_unended : expect Semicolon u.ahead ≡ None → whole s.ahead ≡ None
@@ -32,6 +27,3 @@ module _ {A : Type 0} (word : Fixed) (piece whole : List Token → Parsed A) (co
         code = ap (λ r. r.code) last ∙ h.code ∙ ap (λ r. r.code ++ coding h.value) first;
         pending = ap (λ r. r.pending) last ∙ h.pending ∙ ap (λ r. r.pending) first;
       }
-
-      pub clause_paid : (i : Instr) (v : Snap) → Paid (emitted i t) u → v ≡ advanced u → expect Semicolon u.ahead ≡ Some v.ahead → Paid s v
-      clause_paid i v p last f = paid_then s (emitted i t) v (clause_room i) (paid_then (emitted i t) u v p (subst (Paid u) (sym last) (paid_advance u (expect_starts Semicolon u.ahead v.ahead f))))

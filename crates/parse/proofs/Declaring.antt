@@ -4,7 +4,7 @@ use Rattle.lang.specs.Base.{Word}
 use Rattle.lang.specs.Code.{code_size, code_params, code_locals}
 use Rattle.lang.specs.Grammar.{starts, onward, expect, a_name, a_number, declaration}
 use Rattle.lang.specs.Instr as instr
-use Rattle.lang.specs.Instr.{Instr, scalar, row}
+use Rattle.lang.specs.Instr.{scalar, row}
 use Rattle.lang.specs.Syntax.{Decl}
 use Rattle.lang.specs.Tokens.{Token}
 use Rattle.lang.specs.declared.token.Fixed.TheVariants as the
@@ -23,9 +23,6 @@ sized_number s x b = record { value = record { name = x; size = 0 }; parsed = rw
 -- in brackets, a length that is not 0
 pub sized_row : (s : Snap) (x : Word) (n : ℕ) → starts the.LeftBracket s.ahead ≡ true → a_number (onward s.ahead) ≡ Some (n, onward (onward s.ahead)) → eqb n 0 ≡ false → expect the.RightBracket (onward (onward s.ahead)) ≡ Some (onward (onward (onward s.ahead))) → Read (sized x) (λ d. code_size d ∷ []) s (advanced (emitted (row n) (advanced (advanced s))))
 sized_row s x n b m z e = record { value = record { name = x; size = n }; parsed = rw (b, m, e, z); code = rw z; pending = refl }
-
-pub sized_none : (s : Snap) (x : Word) → starts the.LeftBracket s.ahead ≡ true → a_number (onward s.ahead) ≡ None → sized x s.ahead ≡ None
-sized_none s x b m = rw (b, m)
 
 sized_name : (x : Word) (ts : List Token) → Each (λ p. p.0.name ≡ x) (sized x ts)
 sized_name x ts =

@@ -1,27 +1,26 @@
 -- Code with its length in front.
-use Rattle.std.proofs.Common.{◌≡◌, ℕ, ◌+◌, ◌-◌, List, [], ◌∷◌, ◌++◌, length, set, refl, ap, ◌∙◌, append_assoc, arith, length-append, length-set}
+use Rattle.std.proofs.Common.{◌≡◌, ℕ, ◌+◌, ◌-◌, List, [], ◌∷◌, ◌++◌, length, set, Some, sym, refl, ap, ◌∙◌, append_assoc, arith, length-append}
 use Rattle.std.proofs.lemmas.List.{set_at, length_push}
 use Rattle.lang.specs.Grammar.{Parsed}
 use Rattle.lang.specs.Instr.{Instr}
 use Rattle.lang.specs.Tokens.{Token}
-use Rattle.parse.specs.Reading.{Snap, Read, Paid, emitted, patched}
-
--- what stands behind the header when the piece is written
-behind_header : (is js : List Instr) (i : Instr) → length ((is ++ i ∷ []) ++ js) - (length is + 1) ≡ length js
-behind_header is js i = omega (arith, length-append (is ++ i ∷ []) js, length_push is i)
+use Rattle.parse.specs.Parts.{header_instr, sealed}
+use Rattle.parse.specs.Reading.{Snap, Read, emitted}
+use Rattle.parse.specs.declared.parts.Header.{Header}
 
 header_set : (is js : List Instr) (i j : Instr) → set ((is ++ i ∷ []) ++ js) (length is) j ≡ is ++ j ∷ js
 header_set is js i j = ap (λ k. set k (length is) j) (append_assoc is (i ∷ []) js) ∙ set_at is i js j (length is) refl
 
-pub headed : {A : Type 0} (parse : List Token → Parsed A) (coding : A → List Instr) (header : ℕ → Instr) (s t : Snap) → Read parse coding (emitted (header 0) s) t → Read parse (λ x. header (length (coding x)) ∷ coding x) s (patched (length s.code) (header (length t.code - (length s.code + 1))) t)
-headed parse coding header s t h =
-    let long : length t.code - (length s.code + 1) ≡ length (coding h.value) = ap (λ k. length k - (length s.code + 1)) h.code ∙ behind_header s.code (coding h.value) (header 0) in
-    record {
-      value = h.value;
-      parsed = h.parsed;
-      code = ap (λ k. set k (length s.code) (header (length t.code - (length s.code + 1)))) h.code ∙ header_set s.code (coding h.value) (header 0) _ ∙ ap (λ n. s.code ++ header n ∷ coding h.value) long;
-      pending = h.pending;
-    }
-
-pub paid_patched : (s t : Snap) (n : ℕ) (i : Instr) → Paid s t → Paid s (patched n i t)
-paid_patched s t n i p = record { code = omega (arith, p.code, length-set t.code n i); pending = p.pending; code_room = p.code_room; pending_room = p.pending_room }
+-- a piece behind its header: s before both, t behind the header, u behind the piece, v with its length
+module _ (h : Header) (s t u v : Snap) (at : ℕ) (here : at ≡ length s.code) (begun : t ≡ emitted (header_instr h 0) s) (ended : v ≡ sealed h at u) where
+  pub headed : {A : Type 0} (parse : List Token → Parsed A) (coding : A → List Instr) → Read parse coding t u → Read parse (λ x. header_instr h (length (coding x)) ∷ coding x) s v
+  headed parse coding r =
+      let js = coding r.value in
+      let code : u.code ≡ (s.code ++ header_instr h 0 ∷ []) ++ js = r.code ∙ ap (λ x. x.code ++ js) begun in
+      let long : length u.code - (at + 1) ≡ length js = omega (arith, ap length code, here, length-append (s.code ++ header_instr h 0 ∷ []) js, length_push s.code (header_instr h 0)) in
+      record {
+        value = r.value;
+        parsed = ap (λ x. parse x.ahead) (sym begun) ∙ r.parsed ∙ ap (λ x. Some (r.value, x.ahead)) (sym ended);
+        code = ap (λ x. x.code) ended ∙ (λ i. set (code i) (here i) (header_instr h (long i))) ∙ header_set s.code js (header_instr h 0) _;
+        pending = ap (λ x. x.pending) ended ∙ r.pending ∙ ap (λ x. x.pending) begun;
+      }

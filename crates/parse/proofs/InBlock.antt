@@ -1,5 +1,5 @@
 -- Each step of reading a block keeps what the grammar makes of the rest.
-use Rattle.std.proofs.Common.{◌≡◌, ℕ, ◌+◌, ◌-◌, ◌<◌, ◌≤◌, true, false, List, [], ◌∷◌, ◌++◌, length, take, set, Some, None, sym, refl, ap, ◌∙◌, subst, append_assoc, append-nil, arith, length-append, length-set}
+use Rattle.std.proofs.Common.{◌≡◌, ℕ, ◌+◌, ◌-◌, ◌<◌, ◌≤◌, true, false, List, [], ◌∷◌, ◌++◌, length, take, set, Some, None, sym, refl, ap, ◌∙◌, subst, append_assoc, append-nil, arith, length-append}
 use Rattle.std.proofs.lemmas.List.{length_push, set_at}
 use Rattle.lang.specs.Base.{◌>>=◌}
 use Rattle.lang.specs.Code.{code_expr, code_bool, code_stmt, code_block}
@@ -10,41 +10,22 @@ use Rattle.lang.specs.Syntax.{BoolExpr, Stmt, branch, loop, Block, end, seq}
 use Rattle.lang.specs.Tokens.{Token}
 use Rattle.lang.specs.declared.token.Fixed.TheVariants as the
 use Rattle.lang.proofs.Codes.{one_front, then_front, stmt_front, block_front, bool_front, expr_front}
-use Rattle.parse.specs.InBlock.{listed, Nest, outermost, in_then, in_else, in_loop, around, then_code, loop_code, nest_code, Placed, after_block, AtStatement, kind_instr, kind_part, block_opened, sealed, BlockWhole, Headed}
+use Rattle.parse.specs.InBlock.{listed, Nest, outermost, in_then, in_else, in_loop, around, then_code, loop_code, nest_code, Placed, after_block, AtStatement, block_opened, BlockWhole, Headed}
 use Rattle.parse.specs.Listed.{codes}
-use Rattle.parse.specs.Parts.{part_code, measure_code}
-use Rattle.parse.specs.Reading.{Snap, Read, Room, Paid, advanced, emitted, closed, last_open}
+use Rattle.parse.specs.Parts.{sealed, part_code, measure_code}
+use Rattle.parse.specs.Reading.{Snap, Read, advanced, emitted, closed, last_open}
 use Rattle.parse.specs.Unbounded.{formula∞, condition∞, measured∞, block∞, statement∞, if_head∞, while_head∞}
 use Rattle.parse.specs.declared.open.Open.{Open}
-use Rattle.parse.specs.declared.open.Open.TheVariants.{Then, Else, Do}
-use Rattle.parse.specs.declared.parts.Part.TheVariants.{Test, Invariant}
-use Rattle.parse.specs.declared.statements.Kind.{Kind}
-use Rattle.parse.specs.declared.statements.Kind.TheVariants as kind
+use Rattle.parse.specs.declared.open.Open.TheVariants.{Braces}
+use Rattle.parse.specs.declared.parts.Header.TheVariants as header
+use Rattle.parse.specs.declared.parts.Header.TheVariants.{Test, Invariant}
+use Rattle.parse.specs.declared.open.Kind.{Kind}
+use Rattle.parse.specs.declared.open.Kind.TheVariants as kind
 use Rattle.parse.proofs.Binds.{>>=-assoc, >>=-ext, >>=-some}
-use Rattle.parse.proofs.InExpr.{last_is, rest_is, closed_one}
+use Rattle.parse.proofs.InExpr.{last_is, rest_is}
 use Rattle.parse.proofs.Listed.{codes_more}
 use Rattle.parse.proofs.Plain.{statement_if, statement_while}
 use Rattle.parse.proofs.Rules.{block_rule, if_head_rule, while_head_rule}
-
-pub opened_paid : (s : Snap) (k : Kind) → length s.ahead ≡ 1 + length (onward s.ahead) → Paid s (block_opened k s)
-opened_paid s k l = record { code = omega (arith, length_push s.code (kind_instr k 0), length_push s.pending (kind_part k (length s.code)), l); pending = omega (arith, length_push s.pending (kind_part k (length s.code)), l); code_room = refl; pending_room = refl }
-
--- a part that was open
-some_open : (os : List Open) (o : Open) → Some o ≡ last_open os → 0 < length os
-some_open [] o e = let z : ◌≡◌ {A = ℕ} 0 1 = cc in absurd (omega arith)
-some_open (p ∷ os) o e = omega arith
-
-pub sealed_room : (s : Snap) (o : Open) (k : Kind) (at : ℕ) → Some o ≡ last_open s.pending → Room s → length (sealed k at (closed s)).code < (sealed k at (closed s)).code_room
-sealed_room s o k at e r = omega (arith, r.code, length-set s.code at (kind_instr k (length s.code - (at + 1))), some_open s.pending o e)
-
-pub sealed_paid : (s : Snap) (o : Open) (k : Kind) (at : ℕ) (i : Instr) → Some o ≡ last_open s.pending → Paid s (emitted i (sealed k at (closed s)))
-sealed_paid s o k at i e =
-    let j = kind_instr k (length s.code - (at + 1)) in
-    record { code = omega (arith, length-set s.code at j, length_push (set s.code at j) i, closed_one s.pending (some_open s.pending o e)); pending = omega (arith, closed_one s.pending (some_open s.pending o e)); code_room = refl; pending_room = refl }
-
--- the first token of a head, and two instructions
-pub paid_head : (s : Snap) (i j : Instr) → length s.ahead ≡ 1 + length (onward s.ahead) → Paid s (emitted j (advanced (emitted i s)))
-paid_head s i j l = record { code = omega (arith, length_push s.code i, length_push (s.code ++ i ∷ []) j, l); pending = omega (arith, l); code_room = refl; pending_room = refl }
 
 -- if b {
 pub if_headed : (s u v : Snap) → Read formula∞ (λ b. code_bool b []) (advanced (emitted instr.if s)) u → expect the.LeftBrace u.ahead ≡ Some v.ahead → v ≡ block_opened kind.Then u → Headed (λ ts. if_head∞ (onward ts)) then_code kind.Then s v
@@ -54,7 +35,7 @@ if_headed s u v h e last = record {
   code = ap (λ r. r.code) last ∙ ap (λ k. k ++ instr.then 0 ∷ []) h.code ∙ append_assoc (s.code ++ instr.if ∷ []) (code_bool h.value []) _ ∙ append_assoc s.code (instr.if ∷ []) _ ∙ ap (λ k. s.code ++ instr.if ∷ k) (sym ((bool_front h.value).splits (instr.then 0 ∷ [])));
   at = length u.code;
   placed = omega (arith, ap (λ r. length r.code) last, length_push u.code (instr.then 0));
-  pending = ap (λ r. r.pending) last ∙ ap (λ os. os ++ Then (length u.code) ∷ []) h.pending;
+  pending = ap (λ r. r.pending) last ∙ ap (λ os. os ++ Braces kind.Then (length u.code) ∷ []) h.pending;
 }
 
 -- while b keep b; less e; {
@@ -70,7 +51,7 @@ while_headed s t u v w b i m e last =
           ∙ append_assoc _ ms _ ∙ append_assoc _ is _ ∙ append_assoc (s.code ++ instr.while ∷ []) bs _ ∙ append_assoc s.code (instr.while ∷ []) _;
       at = length v.code;
       placed = omega (arith, ap (λ r. length r.code) last, length_push v.code (instr.rounds 0));
-      pending = ap (λ r. r.pending) last ∙ ap (λ os. os ++ Do (length v.code) ∷ []) (m.pending ∙ i.pending ∙ b.pending);
+      pending = ap (λ r. r.pending) last ∙ ap (λ os. os ++ Braces kind.Do (length v.code) ∷ []) (m.pending ∙ i.pending ∙ b.pending);
     }
 
 -- the code of statements, one behind the other
@@ -87,21 +68,21 @@ listed_more [] s c = refl
 listed_more (t ∷ ss) s c = ap (seq t) (listed_more ss s c)
 
 -- The length of a block is written where its header stands: behind `front`, and before the block's code.
-module _ (header : ℕ → Instr) (front body : List Instr) (at : ℕ) (placed : at + 1 ≡ length (front ++ header 0 ∷ [])) where
-  sealed_code : (code : List Instr) → code ≡ (front ++ header 0 ∷ []) ++ body → set code at (header (length code - (at + 1))) ≡ front ++ header (length body) ∷ body
+module _ (heading : ℕ → Instr) (front body : List Instr) (at : ℕ) (placed : at + 1 ≡ length (front ++ heading 0 ∷ [])) where
+  sealed_code : (code : List Instr) → code ≡ (front ++ heading 0 ∷ []) ++ body → set code at (heading (length code - (at + 1))) ≡ front ++ heading (length body) ∷ body
   sealed_code code e =
-      let here : at ≡ length front = omega (arith, length_push front (header 0)) in
-      let long : length code - (at + 1) ≡ length body = omega (arith, ap length e, length-append (front ++ header 0 ∷ []) body) in
-      ap (λ n. set code at (header n)) long ∙ (λ j. set ((e ∙ append_assoc front (header 0 ∷ []) body) j) (here j) (header (length body))) ∙ set_at front (header 0) body (header (length body)) (length front) refl
+      let here : at ≡ length front = omega (arith, length_push front (heading 0)) in
+      let long : length code - (at + 1) ≡ length body = omega (arith, ap length e, length-append (front ++ heading 0 ∷ []) body) in
+      ap (λ n. set code at (heading n)) long ∙ (λ j. set ((e ∙ append_assoc front (heading 0 ∷ []) body) j) (here j) (heading (length body))) ∙ set_at front (heading 0) body (heading (length body)) (length front) refl
 
 -- the same where the header ends a head h, behind other code x
-sealed_in : (header : ℕ → Instr) (base x h body code : List Instr) (at : ℕ) → at + 1 ≡ length base + length (x ++ (h ++ header 0 ∷ [])) → code ≡ base ++ ((x ++ (h ++ header 0 ∷ [])) ++ body) → set code at (header (length code - (at + 1))) ≡ base ++ (x ++ (h ++ header (length body) ∷ body))
-sealed_in header base x h body code at p e =
+sealed_in : (heading : ℕ → Instr) (base x h body code : List Instr) (at : ℕ) → at + 1 ≡ length base + length (x ++ (h ++ heading 0 ∷ [])) → code ≡ base ++ ((x ++ (h ++ heading 0 ∷ [])) ++ body) → set code at (heading (length code - (at + 1))) ≡ base ++ (x ++ (h ++ heading (length body) ∷ body))
+sealed_in heading base x h body code at p e =
     let front = base ++ (x ++ h) in
     let whole : (k : List Instr) → base ++ (x ++ (h ++ k)) ≡ front ++ k = λ k. ap (λ y. base ++ y) (sym (append_assoc x h k)) ∙ sym (append_assoc base (x ++ h) k) in
-    let placed : at + 1 ≡ length (front ++ header 0 ∷ []) = p ∙ sym (length-append base (x ++ (h ++ header 0 ∷ []))) ∙ ap length (whole (header 0 ∷ [])) in
-    let split : code ≡ (front ++ header 0 ∷ []) ++ body = e ∙ sym (append_assoc base (x ++ (h ++ header 0 ∷ [])) body) ∙ ap (λ k. k ++ body) (whole (header 0 ∷ [])) in
-    sealed_code header front body at placed code split ∙ sym (whole (header (length body) ∷ body))
+    let placed : at + 1 ≡ length (front ++ heading 0 ∷ []) = p ∙ sym (length-append base (x ++ (h ++ heading 0 ∷ []))) ∙ ap length (whole (heading 0 ∷ [])) in
+    let split : code ≡ (front ++ heading 0 ∷ []) ++ body = e ∙ sym (append_assoc base (x ++ (h ++ heading 0 ∷ [])) body) ∙ ap (λ k. k ++ body) (whole (heading 0 ∷ [])) in
+    sealed_code heading front body at placed code split ∙ sym (whole (heading (length body) ∷ body))
 
 then_split : (b : BoolExpr) → then_code b ≡ (instr.if ∷ code_bool b []) ++ instr.then 0 ∷ []
 then_split b = ap (λ k. instr.if ∷ k) ((bool_front b).splits (instr.then 0 ∷ []))
@@ -135,7 +116,7 @@ loop_stmt h c =
 
 module _ (before : Snap) where
   -- `else {` behind the first block of an `if`
-  else_by : (s : Snap) (b : BoolExpr) (at : ℕ) (ss : List Stmt) (n : Nest) (read : List Stmt) → Placed (length before.code) (in_then b at ss n) → s.pending ≡ before.pending ++ around (in_then b at ss n) → s.code ≡ before.code ++ (nest_code (in_then b at ss n) ++ codes code_stmt read) → block∞ before.ahead ≡ after_block (in_then b at ss n) (listed read end) s.ahead → else_head s.ahead ≡ Some (onward (onward s.ahead)) → AtStatement before (block_opened kind.Else (advanced (sealed kind.Then at (closed s))))
+  else_by : (s : Snap) (b : BoolExpr) (at : ℕ) (ss : List Stmt) (n : Nest) (read : List Stmt) → Placed (length before.code) (in_then b at ss n) → s.pending ≡ before.pending ++ around (in_then b at ss n) → s.code ≡ before.code ++ (nest_code (in_then b at ss n) ++ codes code_stmt read) → block∞ before.ahead ≡ after_block (in_then b at ss n) (listed read end) s.ahead → else_head s.ahead ≡ Some (onward (onward s.ahead)) → AtStatement before (block_opened kind.Else (advanced (sealed (header.Block kind.Then) at (closed s))))
   unfolding after_block
   else_by s b at ss n read p o c r e =
       let x = nest_code n ++ codes code_stmt ss in
@@ -152,13 +133,13 @@ module _ (before : Snap) where
         read = [];
         nest = nest₂;
         placed = (sym (length_push _ (instr.else 0)) ∙ ap length code₂ ∙ length-append base (nest_code nest₂), p.1);
-        pending = ap (λ os. take (length os - 1) os ++ Else at₂ ∷ []) (o ∙ sym (append_assoc before.pending (around n) (Then at ∷ []))) ∙ ap (λ os. os ++ Else at₂ ∷ []) (rest_is (before.pending ++ around n) (Then at)) ∙ append_assoc before.pending (around n) _;
+        pending = ap (λ os. take (length os - 1) os ++ Braces kind.Else at₂ ∷ []) (o ∙ sym (append_assoc before.pending (around n) (Braces kind.Then at ∷ []))) ∙ ap (λ os. os ++ Braces kind.Else at₂ ∷ []) (rest_is (before.pending ++ around n) (Braces kind.Then at)) ∙ append_assoc before.pending (around n) _;
         code = code₂ ∙ ap (λ k. base ++ k) (sym (append-nil (nest_code nest₂)));
         rest = r ∙ rw e;
       }
 
   -- a statement with its last block: what it was in, and its code
-  ends_by : (s : Snap) (st : Stmt) (ss : List Stmt) (n : Nest) (part : Open) (code' : List Instr) (last : Instr) → Placed (length before.code) n → s.pending ≡ before.pending ++ (around n ++ part ∷ []) → code' ++ last ∷ [] ≡ before.code ++ ((nest_code n ++ codes code_stmt ss) ++ code_stmt st []) → block∞ before.ahead ≡ (block∞ s.ahead >>= λ p. after_block n (listed ss (seq st p.0)) p.1) → AtStatement before (emitted last (record { code = code'; pending = (closed s).pending; ahead = s.ahead; code_room = s.code_room; pending_room = s.pending_room }))
+  ends_by : (s : Snap) (st : Stmt) (ss : List Stmt) (n : Nest) (part : Open) (code' : List Instr) (last : Instr) → Placed (length before.code) n → s.pending ≡ before.pending ++ (around n ++ part ∷ []) → code' ++ last ∷ [] ≡ before.code ++ ((nest_code n ++ codes code_stmt ss) ++ code_stmt st []) → block∞ before.ahead ≡ (block∞ s.ahead >>= λ p. after_block n (listed ss (seq st p.0)) p.1) → AtStatement before (emitted last (record s { code = code'; pending = (closed s).pending }))
   ends_by s st ss n part code' last p o c r = record {
     read = ss ++ st ∷ [];
     nest = n;
@@ -168,7 +149,7 @@ module _ (before : Snap) where
     rest = r ∙ >>=-ext (block∞ s.ahead) (λ p. ap (λ c. after_block n c p.1) (sym (listed_more ss st p.0)));
   }
 
-  fi_by : (s : Snap) (b : BoolExpr) (c : Block) (at : ℕ) (ss : List Stmt) (n : Nest) (read : List Stmt) → Placed (length before.code) (in_else b c at ss n) → s.pending ≡ before.pending ++ around (in_else b c at ss n) → s.code ≡ before.code ++ (nest_code (in_else b c at ss n) ++ codes code_stmt read) → block∞ before.ahead ≡ after_block (in_else b c at ss n) (listed read end) s.ahead → AtStatement before (emitted instr.end_if (sealed kind.Else at (closed s)))
+  fi_by : (s : Snap) (b : BoolExpr) (c : Block) (at : ℕ) (ss : List Stmt) (n : Nest) (read : List Stmt) → Placed (length before.code) (in_else b c at ss n) → s.pending ≡ before.pending ++ around (in_else b c at ss n) → s.code ≡ before.code ++ (nest_code (in_else b c at ss n) ++ codes code_stmt read) → block∞ before.ahead ≡ after_block (in_else b c at ss n) (listed read end) s.ahead → AtStatement before (emitted instr.end_if (sealed (header.Block kind.Else) at (closed s)))
   unfolding after_block code_stmt
   fi_by s b c at ss n read p o e r =
       let x = nest_code n ++ codes code_stmt ss in
@@ -179,11 +160,11 @@ module _ (before : Snap) where
       let stmt : (then_block b c ++ instr.else (length (codes code_stmt read)) ∷ codes code_stmt read) ++ instr.end_if ∷ [] ≡ code_stmt (branch b c d) [] =
       append_assoc (then_block b c) _ (instr.end_if ∷ []) ∙ ap (λ k. then_block b c ++ instr.else (length (codes code_stmt read)) ∷ k) (sym (listed_code read (instr.end_if ∷ [])))
       ∙ ap (λ m. then_block b c ++ instr.else (length m) ∷ code_block d (instr.end_if ∷ [])) (sym (listed_whole read)) ∙ sym (else_split b c (instr.else (length (code_block d [])) ∷ code_block d (instr.end_if ∷ []))) in
-      ends_by s (branch b c d) ss n (Else at) _ instr.end_if p.1 o
+      ends_by s (branch b c d) ss n (Braces kind.Else at) _ instr.end_if p.1 o
       (ap (λ k. k ++ instr.end_if ∷ []) seal ∙ append_assoc base _ _ ∙ ap (λ k. base ++ k) (append_assoc x _ _ ∙ ap (λ k. x ++ k) stmt))
       r
 
-  od_by : (s : Snap) (h : LoopHead) (at : ℕ) (ss : List Stmt) (n : Nest) (read : List Stmt) → Placed (length before.code) (in_loop h at ss n) → s.pending ≡ before.pending ++ around (in_loop h at ss n) → s.code ≡ before.code ++ (nest_code (in_loop h at ss n) ++ codes code_stmt read) → block∞ before.ahead ≡ after_block (in_loop h at ss n) (listed read end) s.ahead → AtStatement before (emitted instr.end_while (sealed kind.Do at (closed s)))
+  od_by : (s : Snap) (h : LoopHead) (at : ℕ) (ss : List Stmt) (n : Nest) (read : List Stmt) → Placed (length before.code) (in_loop h at ss n) → s.pending ≡ before.pending ++ around (in_loop h at ss n) → s.code ≡ before.code ++ (nest_code (in_loop h at ss n) ++ codes code_stmt read) → block∞ before.ahead ≡ after_block (in_loop h at ss n) (listed read end) s.ahead → AtStatement before (emitted instr.end_while (sealed (header.Block kind.Do) at (closed s)))
   unfolding after_block
   od_by s h at ss n read p o e r =
       let x = nest_code n ++ codes code_stmt ss in
@@ -194,7 +175,7 @@ module _ (before : Snap) where
       let stmt : (loop_front h ++ instr.rounds (length (codes code_stmt read)) ∷ codes code_stmt read) ++ instr.end_while ∷ [] ≡ code_stmt (loop h.test h.invariant h.measure c) [] =
       append_assoc (loop_front h) _ (instr.end_while ∷ []) ∙ ap (λ k. loop_front h ++ instr.rounds (length (codes code_stmt read)) ∷ k) (sym (listed_code read (instr.end_while ∷ [])))
       ∙ ap (λ m. loop_front h ++ instr.rounds (length m) ∷ code_block c (instr.end_while ∷ [])) (sym (listed_whole read)) ∙ sym (loop_stmt h c) in
-      ends_by s (loop h.test h.invariant h.measure c) ss n (Do at) _ instr.end_while p.1 o
+      ends_by s (loop h.test h.invariant h.measure c) ss n (Braces kind.Do at) _ instr.end_while p.1 o
       (ap (λ k. k ++ instr.end_while ∷ []) seal ∙ append_assoc base _ _ ∙ ap (λ k. base ++ k) (append_assoc x _ _ ∙ ap (λ k. x ++ k) stmt))
       r
 
@@ -206,64 +187,64 @@ module _ (before : Snap) where
   not_outermost s e l = absurd (omega (arith, ap length (e ∙ append-nil before.pending)))
 
   module _ (s : Snap) (h : BlockWhole before s) (l : length before.pending < length s.pending) (at : ℕ) where
-    pub then_closed : Some (Then at) ≡ last_open s.pending → else_head s.ahead ≡ Some (onward (onward s.ahead)) → AtStatement before (block_opened kind.Else (advanced (sealed kind.Then at (closed s))))
+    pub then_closed : Some (Braces kind.Then at) ≡ last_open s.pending → else_head s.ahead ≡ Some (onward (onward s.ahead)) → AtStatement before (block_opened kind.Else (advanced (sealed (header.Block kind.Then) at (closed s))))
     then_closed o e = go h.nest h.placed h.pending h.code h.rest
       where
-        go : (n : Nest) → Placed (length before.code) n → s.pending ≡ before.pending ++ around n → s.code ≡ before.code ++ (nest_code n ++ codes code_stmt h.read) → block∞ before.ahead ≡ after_block n (listed h.read end) s.ahead → AtStatement before (block_opened kind.Else (advanced (sealed kind.Then at (closed s))))
+        go : (n : Nest) → Placed (length before.code) n → s.pending ≡ before.pending ++ around n → s.code ≡ before.code ++ (nest_code n ++ codes code_stmt h.read) → block∞ before.ahead ≡ after_block n (listed h.read end) s.ahead → AtStatement before (block_opened kind.Else (advanced (sealed (header.Block kind.Then) at (closed s))))
         go outermost p q c r = not_outermost s q l
         go (in_then b at' ss n) p q c r =
-            let f = last_in s (around n) (Then at') (Then at) q o in
+            let f = last_in s (around n) (Braces kind.Then at') (Braces kind.Then at) q o in
             let same : at' ≡ at = cc in
-            subst (λ m. AtStatement before (block_opened kind.Else (advanced (sealed kind.Then m (closed s))))) same (else_by s b at' ss n h.read p q c r e)
-        go (in_else b c' at' ss n) p q c r = let f = last_in s (around n) (Else at') (Then at) q o in let z : ◌≡◌ {A = ℕ} 0 1 = cc in absurd (omega arith)
-        go (in_loop h' at' ss n) p q c r = let f = last_in s (around n) (Do at') (Then at) q o in let z : ◌≡◌ {A = ℕ} 0 1 = cc in absurd (omega arith)
+            subst (λ m. AtStatement before (block_opened kind.Else (advanced (sealed (header.Block kind.Then) m (closed s))))) same (else_by s b at' ss n h.read p q c r e)
+        go (in_else b c' at' ss n) p q c r = let f = last_in s (around n) (Braces kind.Else at') (Braces kind.Then at) q o in let z : ◌≡◌ {A = ℕ} 0 1 = cc in absurd (omega arith)
+        go (in_loop h' at' ss n) p q c r = let f = last_in s (around n) (Braces kind.Do at') (Braces kind.Then at) q o in let z : ◌≡◌ {A = ℕ} 0 1 = cc in absurd (omega arith)
 
-    pub then_unclosed : Some (Then at) ≡ last_open s.pending → else_head s.ahead ≡ None → block∞ before.ahead ≡ None
+    pub then_unclosed : Some (Braces kind.Then at) ≡ last_open s.pending → else_head s.ahead ≡ None → block∞ before.ahead ≡ None
     unfolding after_block
     then_unclosed o e = go h.nest h.pending h.rest
       where
         go : (n : Nest) → s.pending ≡ before.pending ++ around n → block∞ before.ahead ≡ after_block n (listed h.read end) s.ahead → block∞ before.ahead ≡ None
         go outermost q r = not_outermost s q l
         go (in_then b at' ss n) q r = r ∙ rw e
-        go (in_else b c' at' ss n) q r = let f = last_in s (around n) (Else at') (Then at) q o in let z : ◌≡◌ {A = ℕ} 0 1 = cc in absurd (omega arith)
-        go (in_loop h' at' ss n) q r = let f = last_in s (around n) (Do at') (Then at) q o in let z : ◌≡◌ {A = ℕ} 0 1 = cc in absurd (omega arith)
+        go (in_else b c' at' ss n) q r = let f = last_in s (around n) (Braces kind.Else at') (Braces kind.Then at) q o in let z : ◌≡◌ {A = ℕ} 0 1 = cc in absurd (omega arith)
+        go (in_loop h' at' ss n) q r = let f = last_in s (around n) (Braces kind.Do at') (Braces kind.Then at) q o in let z : ◌≡◌ {A = ℕ} 0 1 = cc in absurd (omega arith)
 
-    pub else_closed : Some (Else at) ≡ last_open s.pending → AtStatement before (emitted instr.end_if (sealed kind.Else at (closed s)))
+    pub else_closed : Some (Braces kind.Else at) ≡ last_open s.pending → AtStatement before (emitted instr.end_if (sealed (header.Block kind.Else) at (closed s)))
     else_closed o = go h.nest h.placed h.pending h.code h.rest
       where
-        go : (n : Nest) → Placed (length before.code) n → s.pending ≡ before.pending ++ around n → s.code ≡ before.code ++ (nest_code n ++ codes code_stmt h.read) → block∞ before.ahead ≡ after_block n (listed h.read end) s.ahead → AtStatement before (emitted instr.end_if (sealed kind.Else at (closed s)))
+        go : (n : Nest) → Placed (length before.code) n → s.pending ≡ before.pending ++ around n → s.code ≡ before.code ++ (nest_code n ++ codes code_stmt h.read) → block∞ before.ahead ≡ after_block n (listed h.read end) s.ahead → AtStatement before (emitted instr.end_if (sealed (header.Block kind.Else) at (closed s)))
         go outermost p q c r = not_outermost s q l
-        go (in_then b at' ss n) p q c r = let f = last_in s (around n) (Then at') (Else at) q o in let z : ◌≡◌ {A = ℕ} 0 1 = cc in absurd (omega arith)
+        go (in_then b at' ss n) p q c r = let f = last_in s (around n) (Braces kind.Then at') (Braces kind.Else at) q o in let z : ◌≡◌ {A = ℕ} 0 1 = cc in absurd (omega arith)
         go (in_else b c' at' ss n) p q c r =
-            let f = last_in s (around n) (Else at') (Else at) q o in
+            let f = last_in s (around n) (Braces kind.Else at') (Braces kind.Else at) q o in
             let same : at' ≡ at = cc in
-            subst (λ m. AtStatement before (emitted instr.end_if (sealed kind.Else m (closed s)))) same (fi_by s b c' at' ss n h.read p q c r)
-        go (in_loop h' at' ss n) p q c r = let f = last_in s (around n) (Do at') (Else at) q o in let z : ◌≡◌ {A = ℕ} 0 1 = cc in absurd (omega arith)
+            subst (λ m. AtStatement before (emitted instr.end_if (sealed (header.Block kind.Else) m (closed s)))) same (fi_by s b c' at' ss n h.read p q c r)
+        go (in_loop h' at' ss n) p q c r = let f = last_in s (around n) (Braces kind.Do at') (Braces kind.Else at) q o in let z : ◌≡◌ {A = ℕ} 0 1 = cc in absurd (omega arith)
 
-    pub do_closed : Some (Do at) ≡ last_open s.pending → AtStatement before (emitted instr.end_while (sealed kind.Do at (closed s)))
+    pub do_closed : Some (Braces kind.Do at) ≡ last_open s.pending → AtStatement before (emitted instr.end_while (sealed (header.Block kind.Do) at (closed s)))
     do_closed o = go h.nest h.placed h.pending h.code h.rest
       where
-        go : (n : Nest) → Placed (length before.code) n → s.pending ≡ before.pending ++ around n → s.code ≡ before.code ++ (nest_code n ++ codes code_stmt h.read) → block∞ before.ahead ≡ after_block n (listed h.read end) s.ahead → AtStatement before (emitted instr.end_while (sealed kind.Do at (closed s)))
+        go : (n : Nest) → Placed (length before.code) n → s.pending ≡ before.pending ++ around n → s.code ≡ before.code ++ (nest_code n ++ codes code_stmt h.read) → block∞ before.ahead ≡ after_block n (listed h.read end) s.ahead → AtStatement before (emitted instr.end_while (sealed (header.Block kind.Do) at (closed s)))
         go outermost p q c r = not_outermost s q l
-        go (in_then b at' ss n) p q c r = let f = last_in s (around n) (Then at') (Do at) q o in let z : ◌≡◌ {A = ℕ} 0 1 = cc in absurd (omega arith)
-        go (in_else b c' at' ss n) p q c r = let f = last_in s (around n) (Else at') (Do at) q o in let z : ◌≡◌ {A = ℕ} 0 1 = cc in absurd (omega arith)
+        go (in_then b at' ss n) p q c r = let f = last_in s (around n) (Braces kind.Then at') (Braces kind.Do at) q o in let z : ◌≡◌ {A = ℕ} 0 1 = cc in absurd (omega arith)
+        go (in_else b c' at' ss n) p q c r = let f = last_in s (around n) (Braces kind.Else at') (Braces kind.Do at) q o in let z : ◌≡◌ {A = ℕ} 0 1 = cc in absurd (omega arith)
         go (in_loop h' at' ss n) p q c r =
-            let f = last_in s (around n) (Do at') (Do at) q o in
+            let f = last_in s (around n) (Braces kind.Do at') (Braces kind.Do at) q o in
             let same : at' ≡ at = cc in
-            subst (λ m. AtStatement before (emitted instr.end_while (sealed kind.Do m (closed s)))) same (od_by s h' at' ss n h.read p q c r)
+            subst (λ m. AtStatement before (emitted instr.end_while (sealed (header.Block kind.Do) m (closed s)))) same (od_by s h' at' ss n h.read p q c r)
 
   -- nothing else has statements inside
-  pub none_closed : (s : Snap) → BlockWhole before s → length before.pending < length s.pending → ((at : ℕ) → Some (Then at) ≡ last_open s.pending → ⊥) → ((at : ℕ) → Some (Else at) ≡ last_open s.pending → ⊥) → ((at : ℕ) → Some (Do at) ≡ last_open s.pending → ⊥) → block∞ before.ahead ≡ None
-  none_closed s h l f g k = go h.nest h.pending
+  pub none_closed : (s : Snap) → BlockWhole before s → length before.pending < length s.pending → ((k : Kind) (at : ℕ) → Some (Braces k at) ≡ last_open s.pending → ⊥) → block∞ before.ahead ≡ None
+  none_closed s h l f = go h.nest h.pending
     where
       found : (os : List Open) (o : Open) → s.pending ≡ before.pending ++ (os ++ o ∷ []) → Some o ≡ last_open s.pending
       found os o e = sym (ap last_open (e ∙ sym (append_assoc before.pending os (o ∷ []))) ∙ last_is (before.pending ++ os) o)
 
       go : (n : Nest) → s.pending ≡ before.pending ++ around n → block∞ before.ahead ≡ None
       go outermost q = not_outermost s q l
-      go (in_then b at ss n) q = absurd (f at (found (around n) (Then at) q))
-      go (in_else b c at ss n) q = absurd (g at (found (around n) (Else at) q))
-      go (in_loop h at ss n) q = absurd (k at (found (around n) (Do at) q))
+      go (in_then b at ss n) q = absurd (f kind.Then at (found (around n) (Braces kind.Then at) q))
+      go (in_else b c at ss n) q = absurd (f kind.Else at (found (around n) (Braces kind.Else at) q))
+      go (in_loop h at ss n) q = absurd (f kind.Do at (found (around n) (Braces kind.Do at) q))
 
 -- A block begins.
 pub begun : (s : Snap) → AtStatement s s
@@ -295,7 +276,7 @@ module _ (before s : Snap) (h : AtStatement before s) where
       read = [];
       nest = in_then r.value r.at h.read h.nest;
       placed = (r.placed ∙ ap length code' ∙ length-append before.code _, h.placed);
-      pending = r.pending ∙ ap (λ os. os ++ Then r.at ∷ []) h.pending ∙ append_assoc before.pending (around h.nest) _;
+      pending = r.pending ∙ ap (λ os. os ++ Braces kind.Then r.at ∷ []) h.pending ∙ append_assoc before.pending (around h.nest) _;
       code = code' ∙ ap (λ k. before.code ++ k) (sym (append-nil _));
       rest = h.rest ∙ rw (block_rule s.ahead, b, statement_if s.ahead f, r.parsed) (>>=-assoc (block∞ t.ahead >>= ifs) rests afters ∙ >>=-assoc (block∞ t.ahead) ifs (λ y. rests y >>= afters) ∙ >>=-ext (block∞ t.ahead) (λ q. >>=-assoc (else_head q.1) _ _ ∙ >>=-ext (else_head q.1) (λ us. >>=-assoc (block∞ us) _ _ ∙ >>=-ext (block∞ us) (λ d. >>=-assoc (block∞ d.1) _ _))));
     }
@@ -318,7 +299,7 @@ module _ (before s : Snap) (h : AtStatement before s) where
       read = [];
       nest = in_loop r.value r.at h.read h.nest;
       placed = (r.placed ∙ ap length code' ∙ length-append before.code _, h.placed);
-      pending = r.pending ∙ ap (λ os. os ++ Do r.at ∷ []) h.pending ∙ append_assoc before.pending (around h.nest) _;
+      pending = r.pending ∙ ap (λ os. os ++ Braces kind.Do r.at ∷ []) h.pending ∙ append_assoc before.pending (around h.nest) _;
       code = code' ∙ ap (λ k. before.code ++ k) (sym (append-nil _));
       rest = h.rest ∙ rw (block_rule s.ahead, b, statement_while s.ahead f, r.parsed) (>>=-assoc (block∞ t.ahead >>= loops) rests afters ∙ >>=-assoc (block∞ t.ahead) loops (λ y. rests y >>= afters) ∙ >>=-ext (block∞ t.ahead) (λ q. >>=-assoc (block∞ q.1) _ _));
     }
@@ -345,6 +326,6 @@ block_read before s h l = go h.nest h.pending h.code h.rest
 
     go : (n : Nest) → s.pending ≡ before.pending ++ around n → s.code ≡ before.code ++ (nest_code n ++ codes code_stmt h.read) → block∞ before.ahead ≡ after_block n (listed h.read end) s.ahead → Read block∞ (λ c. code_block c []) before s
     go outermost q c r = record { value = listed h.read end; parsed = r; code = c ∙ ap (λ k. before.code ++ k) (sym (listed_whole h.read)); pending = q ∙ append-nil before.pending }
-    go (in_then b at ss n) q c r = grown (around n) (Then at) q
-    go (in_else b d at ss n) q c r = grown (around n) (Else at) q
-    go (in_loop k at ss n) q c r = grown (around n) (Do at) q
+    go (in_then b at ss n) q c r = grown (around n) (Braces kind.Then at) q
+    go (in_else b d at ss n) q c r = grown (around n) (Braces kind.Else at) q
+    go (in_loop k at ss n) q c r = grown (around n) (Braces kind.Do at) q

@@ -63,16 +63,16 @@ formula_in n ts =
 
 -- The link that waits last.
 link_above : (l : Link) (base : ℕ) (s : Snap) (n : Node) → last_link l base s.pending ≡ Some n → 0 < length s.pending
-link_above l base s n e = omega (arith, ltb-true base (length s.pending) (when_some (ltb base (length s.pending)) (last_open s.pending >>= of_link l) n e))
+link_above l base s n e = omega (arith, ltb-true base (length s.pending) (when_some (ltb base (length s.pending)) (last_open s.pending) (of_link l) n e))
 
-pub linked_paid : (text : List ℕ) (l : Link) (base : ℕ) (s : Snap) → Paid s (linked text l base s)
-linked_paid text l base s = go (last_link l base s.pending) refl
+pub linked_paid : (l : Link) (base : ℕ) (s : Snap) → Paid s (linked l base s)
+linked_paid l base s = go (last_link l base s.pending) refl
   where
-    go : (o : Option Node) → last_link l base s.pending ≡ o → Paid s (maybe o s λ n. emitted (instr text n) (closed s))
+    go : (o : Option Node) → last_link l base s.pending ≡ o → Paid s (maybe o s λ n. emitted (instr s.text n) (closed s))
     go None e = paid_none s
     go (Some n) e =
         let one = closed_one s.pending (link_above l base s n e) in
-        record { code = omega (arith, length_push s.code (instr text n), one); pending = omega (arith, one); code_room = refl; pending_room = refl }
+        record { code = omega (arith, length_push s.code (instr s.text n), one); pending = omega (arith, one); text = refl; code_room = refl; pending_room = refl }
 
 -- A comparison.
 each_value : {A : Type 0} {P : A → Type 0} {o : Option A} (x : A) → Each P o → o ≡ Some x → P x
@@ -98,11 +98,6 @@ comparison_reads a b c o l e r = record {
   where
     k : List Instr
     k = instr.compare o ∷ []
-
-pub comparison_paid : (a b c : Snap) (o : Comparison) → Paid a b → comparing b.ahead ≡ Some o → Paid (advanced b) c → Paid a (emitted (instr.compare o) c)
-comparison_paid a b c o p e q =
-    let fewer : length (onward b.ahead) < length b.ahead = each_value o (comparing_shorter b.ahead) e in
-    record { code = omega (arith, p.code, q.code, length_push c.code (instr.compare o)); pending = omega (arith, p.pending, q.pending); code_room = q.code_room ∙ p.code_room; pending_room = q.pending_room ∙ p.pending_room }
 
 -- A unit by the first token.
 unit_not : (ts : List Token) → starts the.Not ts ≡ true → unit∞ ts ≡ (unit∞ (onward ts) >>= λ p. Some (negate p.0, p.1))
@@ -151,71 +146,71 @@ all_head_long ts us x n h = each_value ((x, n), us) counted h
         some (omega arith)
 
 -- What each turn uses.
-pub enter_used : (t : Turn) (f : Fixed) (o : Open) (s : Snap) → 2 ≤ weight t → starts f s.ahead ≡ true → Used t s (advanced (opened o s)) turn.Unit
+pub enter_used : (t : Turn) (f : Fixed) (o : Open) (s : Snap) → 2 ≤ weight (Some t) → starts f s.ahead ≡ true → Used t s (advanced (opened o s)) (Some turn.Unit)
 enter_used t f o s w h = record {
-  paid = record { code = omega (arith, length_push s.pending o, starts_long f s.ahead h); pending = omega (arith, length_push s.pending o, starts_long f s.ahead h); code_room = refl; pending_room = refl };
+  paid = record { code = omega (arith, length_push s.pending o, starts_long f s.ahead h); pending = omega (arith, length_push s.pending o, starts_long f s.ahead h); text = refl; code_room = refl; pending_room = refl };
   less = omega (arith, length_push s.pending o, starts_long f s.ahead h);
 }
 
-pub yes_used : (s : Snap) → starts the.Yes s.ahead ≡ true → Used turn.Unit s (advanced (emitted instr.truth s)) turn.Behind
+pub yes_used : (s : Snap) → starts the.Yes s.ahead ≡ true → Used turn.Unit s (advanced (emitted instr.truth s)) (Some turn.Behind)
 yes_used s h = record {
-  paid = record { code = omega (arith, length_push s.code instr.truth, starts_long the.Yes s.ahead h); pending = omega (arith, starts_long the.Yes s.ahead h); code_room = refl; pending_room = refl };
+  paid = record { code = omega (arith, length_push s.code instr.truth, starts_long the.Yes s.ahead h); pending = omega (arith, starts_long the.Yes s.ahead h); text = refl; code_room = refl; pending_room = refl };
   less = omega (arith, starts_long the.Yes s.ahead h);
 }
 
-pub comparison_used : (s t : Snap) → Read comparison∞ (λ b. code_bool b []) s t → Paid s t → Used turn.Unit s t turn.Behind
+pub comparison_used : (s t : Snap) → Read comparison∞ (λ b. code_bool b []) s t → Paid s t → Used turn.Unit s t (Some turn.Behind)
 comparison_used s t r p =
     let fewer : length t.ahead < length s.ahead = each_value _ (comparison_shorter s.ahead) r.parsed in
     record { paid = p; less = omega (arith, fewer, ap length r.pending) }
 
-pub all_used : (x : Word) (n : ℕ) (s : Snap) (us : List Token) → 5 + length us ≤ length s.ahead → Used turn.Unit s (all_begun x n (at us s)) turn.Unit
+pub all_used : (x : Word) (n : ℕ) (s : Snap) (us : List Token) → 5 + length us ≤ length s.ahead → Used turn.Unit s (all_begun x n (at us s)) (Some turn.Unit)
 all_used x n s us l =
     let code = s.code in
     let o = All (length ((code ++ instr.all x ∷ []) ++ instr.bound n ∷ [])) in
     let written : length (((code ++ instr.all x ∷ []) ++ instr.bound n ∷ []) ++ instr.scope 0 ∷ []) ≡ length code + 3 = omega (arith, length_push code (instr.all x), length_push (code ++ instr.all x ∷ []) (instr.bound n), length_push ((code ++ instr.all x ∷ []) ++ instr.bound n ∷ []) (instr.scope 0)) in
     record {
-      paid = record { code = omega (arith, written, length_push s.pending o); pending = omega (arith, length_push s.pending o); code_room = refl; pending_room = refl };
+      paid = record { code = omega (arith, written, length_push s.pending o); pending = omega (arith, length_push s.pending o); text = refl; code_room = refl; pending_room = refl };
       less = omega (arith, length_push s.pending o);
     }
 
-pub linked_ahead : (text : List ℕ) (l : Link) (base : ℕ) (s : Snap) → (linked text l base s).ahead ≡ s.ahead
-linked_ahead text l base s = go (last_link l base s.pending)
+pub linked_ahead : (l : Link) (base : ℕ) (s : Snap) → (linked l base s).ahead ≡ s.ahead
+linked_ahead l base s = go (last_link l base s.pending)
   where
-    go : (o : Option Node) → (maybe o s λ n. emitted (instr text n) (closed s)).ahead ≡ s.ahead
+    go : (o : Option Node) → (maybe o s λ n. emitted (instr s.text n) (closed s)).ahead ≡ s.ahead
     go None = refl
     go (Some n) = refl
 
-pub links_ahead : (text : List ℕ) (s t u : Snap) (base : ℕ) → t ≡ linked text link.Not base s → u ≡ linked text link.And base t → u.ahead ≡ s.ahead
-links_ahead text s t u base e f = ap (λ x. x.ahead) f ∙ linked_ahead text link.And base t ∙ ap (λ x. x.ahead) e ∙ linked_ahead text link.Not base s
+pub links_ahead : (s t u : Snap) (base : ℕ) → t ≡ linked link.Not base s → u ≡ linked link.And base t → u.ahead ≡ s.ahead
+links_ahead s t u base e f = ap (λ x. x.ahead) f ∙ linked_ahead link.And base t ∙ ap (λ x. x.ahead) e ∙ linked_ahead link.Not base s
 
 -- after a step from s to t that reads nothing
-pub used_after : (turn : Turn) (s t u : Snap) (next : Turn) → Paid s t → t.ahead ≡ s.ahead → Used turn t u next → Used turn s u next
+pub used_after : (turn : Turn) (s t u : Snap) (next : Option Turn) → Paid s t → t.ahead ≡ s.ahead → Used turn t u next → Used turn s u next
 used_after turn s t u next p a h = record { paid = paid_then s t u p h.paid; less = omega (arith, h.less, p.pending, ap length a) }
 
-pub whole_used : (s t : Snap) → Paid s t → t.ahead ≡ s.ahead → Used turn.Behind s t turn.Whole
+pub whole_used : (s t : Snap) → Paid s t → t.ahead ≡ s.ahead → Used turn.Behind s t (Some turn.Whole)
 whole_used s t p a = record { paid = p; less = omega (arith, p.pending, ap length a) }
 
-pub done_used : (s : Snap) → Used turn.Whole s s turn.Done
+pub done_used : (s : Snap) → Used turn.Whole s s None
 done_used s = record { paid = paid_none s; less = omega arith }
 
-pub not_used : (text : List ℕ) (base : ℕ) (s : Snap) → is_some (last_link link.Not base s.pending) ≡ true → Used turn.Behind s (linked text link.Not base s) turn.Behind
-not_used text base s h = record { paid = linked_paid text link.Not base s; less = go (last_link link.Not base s.pending) refl h }
+pub not_used : (base : ℕ) (s : Snap) → is_some (last_link link.Not base s.pending) ≡ true → Used turn.Behind s (linked link.Not base s) (Some turn.Behind)
+not_used base s h = record { paid = linked_paid link.Not base s; less = go (last_link link.Not base s.pending) refl h }
   where
-    go : (o : Option Node) → last_link link.Not base s.pending ≡ o → is_some o ≡ true → left turn.Behind (maybe o s λ n. emitted (instr text n) (closed s)) < left turn.Behind s
+    go : (o : Option Node) → last_link link.Not base s.pending ≡ o → is_some o ≡ true → left (Some turn.Behind) (maybe o s λ n. emitted (instr s.text n) (closed s)) < left (Some turn.Behind) s
     go None e i = let z : ◌≡◌ {A = ℕ} 0 1 = cc in absurd (omega arith)
     go (Some n) e i = omega (arith, closed_one s.pending (link_above link.Not base s n e))
 
-pub implication_used : (s : Snap) → 0 < length s.pending → Used turn.Whole s (emitted instr.implies (closed s)) turn.Whole
-implication_used s more = record { paid = record { code = omega (arith, length_push s.code instr.implies, closed_one s.pending more); pending = omega (arith, closed_one s.pending more); code_room = refl; pending_room = refl }; less = omega (arith, closed_one s.pending more) }
+pub implication_used : (s : Snap) → 0 < length s.pending → Used turn.Whole s (emitted instr.implies (closed s)) (Some turn.Whole)
+implication_used s more = record { paid = record { code = omega (arith, length_push s.code instr.implies, closed_one s.pending more); pending = omega (arith, closed_one s.pending more); text = refl; code_room = refl; pending_room = refl }; less = omega (arith, closed_one s.pending more) }
 
-pub brackets_used : (s : Snap) → length (onward s.ahead) < length s.ahead → Used turn.Whole s (advanced (closed s)) turn.Behind
-brackets_used s l = record { paid = record { code = omega (arith, closed_short s.pending); pending = omega (arith, closed_short s.pending); code_room = refl; pending_room = refl }; less = omega (arith, closed_short s.pending) }
+pub brackets_used : (s : Snap) → length (onward s.ahead) < length s.ahead → Used turn.Whole s (advanced (closed s)) (Some turn.Behind)
+brackets_used s l = record { paid = record { code = omega (arith, closed_short s.pending); pending = omega (arith, closed_short s.pending); text = refl; code_room = refl; pending_room = refl }; less = omega (arith, closed_short s.pending) }
 
-pub end_used : (at : ℕ) (s : Snap) → length (onward s.ahead) < length s.ahead → Used turn.Whole s (all_ended at (advanced (closed s))) turn.Behind
+pub end_used : (at : ℕ) (s : Snap) → length (onward s.ahead) < length s.ahead → Used turn.Whole s (all_ended at (advanced (closed s))) (Some turn.Behind)
 end_used at s l =
-    let scope = instr.scope (length s.code - at - 1) in
+    let scope = instr.scope (length s.code - (at + 1)) in
     let written : length (set s.code at scope ++ instr.end_all ∷ []) ≡ length s.code + 1 = omega (arith, length_push (set s.code at scope) instr.end_all, length-set s.code at scope) in
-    record { paid = record { code = omega (arith, written, closed_short s.pending); pending = omega (arith, closed_short s.pending); code_room = refl; pending_room = refl }; less = omega (arith, closed_short s.pending) }
+    record { paid = record { code = omega (arith, written, closed_short s.pending); pending = omega (arith, closed_short s.pending); text = refl; code_room = refl; pending_room = refl }; less = omega (arith, closed_short s.pending) }
 
 last_link_push : (l : Link) (base : ℕ) (os : List Open) (o : Open) → base ≤ length os → last_link l base (os ++ o ∷ []) ≡ of_link l o
 last_link_push l base os o h =
@@ -226,11 +221,11 @@ last_link_none : (l : Link) (os : List Open) → last_link l (length os) os ≡ 
 last_link_none l os = rw (le-ltb (length os) (length os) (omega arith))
 
 -- the head of an `all` as one piece
-all_begun_is : (x : Word) (n : ℕ) (s : Snap) → all_begun x n s ≡ record { code = s.code ++ head_code (bounded x n); pending = s.pending ++ context (length s.code) (bounded x n) ∷ []; ahead = s.ahead; code_room = s.code_room; pending_room = s.pending_room }
+all_begun_is : (x : Word) (n : ℕ) (s : Snap) → all_begun x n s ≡ record s { code = s.code ++ head_code (bounded x n); pending = s.pending ++ context (length s.code) (bounded x n) ∷ [] }
 all_begun_is x n s =
     let code = s.code in
     let two : length ((code ++ instr.all x ∷ []) ++ instr.bound n ∷ []) ≡ length code + 2 = omega (arith, length_push code (instr.all x), length_push (code ++ instr.all x ∷ []) (instr.bound n)) in
-    same_snap _ _ (append_assoc (code ++ instr.all x ∷ []) _ _ ∙ append_assoc code _ _) (ap (λ k. s.pending ++ All k ∷ []) two) refl refl refl
+    same_snap _ _ refl (append_assoc (code ++ instr.all x ∷ []) _ _ ∙ append_assoc code _ _) (ap (λ k. s.pending ++ All k ∷ []) two) refl refl refl
 
 -- where the last instruction is that of the whole
 code_ended : (b c : BoolExpr) (i : Instr) (front : List Instr) → code_bool c [] ≡ code_bool b (i ∷ []) → (front ++ code_bool b []) ++ i ∷ [] ≡ front ++ code_bool c []
@@ -242,18 +237,18 @@ code_joined a b c i front e =
     ∙ append_assoc front (code_bool a []) (code_bool b [] ++ i ∷ [])
     ∙ ap (λ is. front ++ is) (sym (e ∙ (bool_front a).splits (code_bool b (i ∷ [])) ∙ ap (λ is. code_bool a [] ++ is) ((bool_front b).splits (i ∷ []))))
 
-linked_none : (text : List ℕ) (l : Link) (base : ℕ) (s : Snap) → last_link l base s.pending ≡ None → linked text l base s ≡ s
-linked_none text l base s e = rw e
+linked_none : (l : Link) (base : ℕ) (s : Snap) → last_link l base s.pending ≡ None → linked l base s ≡ s
+linked_none l base s e = rw e
 
 -- a formula behind the head of an `all`, with its length put in
-all_code : (front code : List Instr) (b : BoolExpr) (x : Word) (n at : ℕ) → at ≡ length front + 2 → code ≡ front ++ (instr.all x ∷ instr.bound n ∷ instr.scope 0 ∷ code_bool b []) → set code at (instr.scope (length code - at - 1)) ++ instr.end_all ∷ [] ≡ front ++ code_bool (for_all x n b) []
+all_code : (front code : List Instr) (b : BoolExpr) (x : Word) (n at : ℕ) → at ≡ length front + 2 → code ≡ front ++ (instr.all x ∷ instr.bound n ∷ instr.scope 0 ∷ code_bool b []) → set code at (instr.scope (length code - (at + 1))) ++ instr.end_all ∷ [] ≡ front ++ code_bool (for_all x n b) []
 unfolding code_bool
 all_code front code b x n at e c =
     let inner = code_bool b [] in
     let head = front ++ (instr.all x ∷ instr.bound n ∷ []) in
     let is : code ≡ head ++ instr.scope 0 ∷ inner = c ∙ sym (append_assoc front _ _) in
     let long : length head ≡ at = omega (arith, length-append front (instr.all x ∷ instr.bound n ∷ []), e) in
-    let size : length code - at - 1 ≡ length inner = omega (arith, ap length is, length-append head (instr.scope 0 ∷ inner), long) in
+    let size : length code - (at + 1) ≡ length inner = omega (arith, ap length is, length-append head (instr.scope 0 ∷ inner), long) in
     ap (λ k. set code at (instr.scope k) ++ instr.end_all ∷ []) size
     ∙ ap (λ is. set is at (instr.scope (length inner)) ++ instr.end_all ∷ []) is
     ∙ ap (λ is. is ++ instr.end_all ∷ []) (set_at head (instr.scope 0) inner (instr.scope (length inner)) at long)
@@ -263,7 +258,7 @@ all_code front code b x n at e c =
 
 module _ (before : Snap) where
   -- A unit is whole, by its value and what was written of it, or a formula begins.
-  unit_whole : (s : Snap) (b : BoolExpr) (is : List Instr) (us : List Token) → AtUnit before s → unit∞ s.ahead ≡ Some (b, us) → code_bool b [] ≡ is → BehindUnit before (record { code = s.code ++ is; pending = s.pending; ahead = us; code_room = s.code_room; pending_room = s.pending_room })
+  unit_whole : (s : Snap) (b : BoolExpr) (is : List Instr) (us : List Token) → AtUnit before s → unit∞ s.ahead ≡ Some (b, us) → code_bool b [] ≡ is → BehindUnit before (record s { code = s.code ++ is; ahead = us })
   unit_whole s b is us h a e = record {
     level = h.level;
     nest = h.nest;
@@ -277,7 +272,7 @@ module _ (before : Snap) where
   unit_none s h a = h.rest ∙ ap (λ m. m >>= λ p. after_unit h.level h.nest p.0 p.1) a
 
   -- brackets or the head of an `all`
-  unit_inside : (s : Snap) (c : Context) (us : List Token) → AtUnit before s → unit∞ s.ahead ≡ (formula∞ us >>= λ p. expect (closer c) p.1 >>= λ vs. Some (wrapped c p.0, vs)) → AtUnit before (record { code = s.code ++ head_code c; pending = s.pending ++ context (length s.code) c ∷ []; ahead = us; code_room = s.code_room; pending_room = s.pending_room })
+  unit_inside : (s : Snap) (c : Context) (us : List Token) → AtUnit before s → unit∞ s.ahead ≡ (formula∞ us >>= λ p. expect (closer c) p.1 >>= λ vs. Some (wrapped c p.0, vs)) → AtUnit before (record s { code = s.code ++ head_code c; pending = s.pending ++ context (length s.code) c ∷ []; ahead = us })
   unfolding after_formula
   unit_inside s c us h a =
       let v = h.level in
@@ -302,14 +297,14 @@ module _ (before : Snap) where
   pub comparison_unit : (s t : Snap) → AtUnit before s → starts the.Not s.ahead ≡ false → starts the.Yes s.ahead ≡ false → starts the.LeftBracket s.ahead ≡ false → starts the.All s.ahead ≡ false → Read comparison∞ (λ d. code_bool d []) s t → Paid s t → BehindUnit before t
   comparison_unit s t h n y b a r p =
       let whole = unit_whole s r.value (code_bool r.value []) t.ahead h (unit_compares s.ahead n y b a ∙ r.parsed) refl in
-      subst (BehindUnit before) (same_snap _ t (sym r.code) (sym r.pending) refl (sym p.code_room) (sym p.pending_room)) whole
+      subst (BehindUnit before) (same_snap _ t (sym p.text) (sym r.code) (sym r.pending) refl (sym p.code_room) (sym p.pending_room)) whole
 
   pub yes_reads : (s : Snap) → AtUnit before s → starts the.Yes s.ahead ≡ true → BehindUnit before (advanced (emitted instr.truth s))
   unfolding code_bool
   yes_reads s h y = unit_whole s truth (instr.truth ∷ []) (onward s.ahead) h (unit_yes s.ahead y) refl
 
   pub brackets_reads : (s : Snap) → AtUnit before s → starts the.LeftBracket s.ahead ≡ true → AtUnit before (advanced (opened Bracket s))
-  brackets_reads s h b = subst (λ is. AtUnit before (record { code = is; pending = s.pending ++ Bracket ∷ []; ahead = onward s.ahead; code_room = s.code_room; pending_room = s.pending_room })) (append-nil s.code) (unit_inside s brackets (onward s.ahead) h (unit_brackets s.ahead b))
+  brackets_reads s h b = subst (λ is. AtUnit before (record s { code = is; pending = s.pending ++ Bracket ∷ []; ahead = onward s.ahead })) (append-nil s.code) (unit_inside s brackets (onward s.ahead) h (unit_brackets s.ahead b))
 
   pub all_reads : (s : Snap) (x : Word) (n : ℕ) (us : List Token) → AtUnit before s → starts the.All s.ahead ≡ true → all_head (onward s.ahead) ≡ Some ((x, n), us) → AtUnit before (all_begun x n (at us s))
   all_reads s x n us h a e = subst (AtUnit before) (sym (all_begun_is x n (at us s))) (unit_inside s (bounded x n) us h (unit_bounded s.ahead a ∙ rw e))
@@ -352,25 +347,25 @@ module _ (before : Snap) where
   conj_link l m None n e f = rw (append-nil (waits Or m)) (disj_link l m n e)
   conj_link l m (Some w) n e f = ap (λ os. last_link l (length before.pending) (before.pending ++ os)) (sym (append_assoc (around (length before.code) n) (waits Or m) _)) ∙ link_of l (around (length before.code) n ++ waits Or m) (And w.place) ∙ rw f
 
-  linked_by : (text : List ℕ) (l : Link) (s : Snap) (os : List Open) (o : Open) (n : Node) → s.pending ≡ before.pending ++ (os ++ o ∷ []) → of_link l o ≡ Some n → linked text l (length before.pending) s ≡ emitted (instr text n) (record { code = s.code; pending = before.pending ++ os; ahead = s.ahead; code_room = s.code_room; pending_room = s.pending_room })
-  linked_by text l s os o n e is =
+  linked_by : (l : Link) (s : Snap) (os : List Open) (o : Open) (n : Node) → s.pending ≡ before.pending ++ (os ++ o ∷ []) → of_link l o ≡ Some n → linked l (length before.pending) s ≡ emitted (instr s.text n) (record s { pending = before.pending ++ os })
+  linked_by l s os o n e is =
       let last : last_link l (length before.pending) s.pending ≡ Some n = ap (last_link l (length before.pending)) e ∙ link_of l os o ∙ is in
       let rest : take (length s.pending - 1) s.pending ≡ before.pending ++ os = ap (λ os. take (length os - 1) os) (e ∙ sym (append_assoc before.pending os (o ∷ []))) ∙ rest_is (before.pending ++ os) o in
       rw (last, rest)
 
   -- a `not` before it
-  denial_written_by : (text : List ℕ) (s : Snap) (m q : Option Waiting) (xs : List Place) (n : Nest) (b : BoolExpr) → s.pending ≡ before.pending ++ (around (length before.code) n ++ ((waits Or m ++ waits And q) ++ denials xs)) → s.code ≡ before.code ++ ((nest_code n ++ (left_code m ++ left_code q)) ++ code_bool b []) → formula∞ before.ahead ≡ after_unit (record { disj = m; conj = q; nots = xs }) n b s.ahead → is_some (last_link link.Not (length before.pending) s.pending) ≡ true → BehindUnit before (linked text link.Not (length before.pending) s)
+  denial_written_by : (s : Snap) (m q : Option Waiting) (xs : List Place) (n : Nest) (b : BoolExpr) → s.pending ≡ before.pending ++ (around (length before.code) n ++ ((waits Or m ++ waits And q) ++ denials xs)) → s.code ≡ before.code ++ ((nest_code n ++ (left_code m ++ left_code q)) ++ code_bool b []) → formula∞ before.ahead ≡ after_unit (record { disj = m; conj = q; nots = xs }) n b s.ahead → is_some (last_link link.Not (length before.pending) s.pending) ≡ true → BehindUnit before (linked link.Not (length before.pending) s)
   unfolding code_bool
-  denial_written_by text s m q [] n b p c r e =
+  denial_written_by s m q [] n b p c r e =
       let none : last_link link.Not (length before.pending) s.pending ≡ None = ap (last_link link.Not (length before.pending)) p ∙ rw (append-nil (waits Or m ++ waits And q)) (conj_link link.Not m q n refl refl) in
       let z : ◌≡◌ {A = ℕ} 0 1 = let f = ap is_some none in cc in
       absurd (omega arith)
-  denial_written_by text s m q (x ∷ xs) n b p c r e =
+  denial_written_by s m q (x ∷ xs) n b p c r e =
       let outer = around (length before.code) n in
       let words = waits Or m ++ waits And q in
       let os = outer ++ (words ++ denials xs) in
       let last : s.pending ≡ before.pending ++ (os ++ Not x ∷ []) = p ∙ ap (λ os. before.pending ++ os) (ap (λ os. outer ++ os) (sym (append_assoc words (denials xs) _)) ∙ sym (append_assoc outer (words ++ denials xs) _)) in
-      let done = linked_by text link.Not s os (Not x) (node.Not x) last refl in
+      let done = linked_by link.Not s os (Not x) (node.Not x) last refl in
       subst (BehindUnit before) (sym done) (record {
         level = record { disj = m; conj = q; nots = xs };
         nest = n;
@@ -380,10 +375,10 @@ module _ (before : Snap) where
         rest = r;
       })
 
-  pub denial_written : (text : List ℕ) (s t : Snap) (base : ℕ) → base ≡ length before.pending → t ≡ linked text link.Not base s → is_some (last_link link.Not base s.pending) ≡ true → BehindUnit before s → BehindUnit before t
-  denial_written text s t base b e waits h =
+  pub denial_written : (s t : Snap) (base : ℕ) → base ≡ length before.pending → t ≡ linked link.Not base s → is_some (last_link link.Not base s.pending) ≡ true → BehindUnit before s → BehindUnit before t
+  denial_written s t base b e waits h =
       let at_base : is_some (last_link link.Not (length before.pending) s.pending) ≡ true = ap (λ k. is_some (last_link link.Not k s.pending)) (sym b) ∙ waits in
-      subst (BehindUnit before) (ap (λ k. linked text link.Not k s) (sym b) ∙ sym e) (denial_written_by text s h.level.disj h.level.conj h.level.nots h.nest h.value h.pending h.code h.rest at_base)
+      subst (BehindUnit before) (ap (λ k. linked link.Not k s) (sym b) ∙ sym e) (denial_written_by s h.level.disj h.level.conj h.level.nots h.nest h.value h.pending h.code h.rest at_base)
 
   -- a unit that no `not` stands before
   pub record LoneUnit (s : Snap) : Type 0 where
@@ -395,12 +390,12 @@ module _ (before : Snap) where
     pub code : s.code ≡ before.code ++ ((nest_code nest ++ (left_code disj ++ left_code conj)) ++ code_bool value [])
     pub rest : formula∞ before.ahead ≡ after_unit (record { disj = disj; conj = conj; nots = [] }) nest value s.ahead
 
-  lone_by : (text : List ℕ) (s : Snap) (m q : Option Waiting) (xs : List Place) (n : Nest) (b : BoolExpr) → s.pending ≡ before.pending ++ (around (length before.code) n ++ ((waits Or m ++ waits And q) ++ denials xs)) → s.code ≡ before.code ++ ((nest_code n ++ (left_code m ++ left_code q)) ++ code_bool b []) → formula∞ before.ahead ≡ after_unit (record { disj = m; conj = q; nots = xs }) n b s.ahead → is_some (last_link link.Not (length before.pending) s.pending) ≡ false → LoneUnit (linked text link.Not (length before.pending) s)
-  lone_by text s m q [] n b p c r e =
+  lone_by : (s : Snap) (m q : Option Waiting) (xs : List Place) (n : Nest) (b : BoolExpr) → s.pending ≡ before.pending ++ (around (length before.code) n ++ ((waits Or m ++ waits And q) ++ denials xs)) → s.code ≡ before.code ++ ((nest_code n ++ (left_code m ++ left_code q)) ++ code_bool b []) → formula∞ before.ahead ≡ after_unit (record { disj = m; conj = q; nots = xs }) n b s.ahead → is_some (last_link link.Not (length before.pending) s.pending) ≡ false → LoneUnit (linked link.Not (length before.pending) s)
+  lone_by s m q [] n b p c r e =
       let lone : s.pending ≡ before.pending ++ (around (length before.code) n ++ (waits Or m ++ waits And q)) = p ∙ ap (λ os. before.pending ++ (around (length before.code) n ++ os)) (append-nil (waits Or m ++ waits And q)) in
-      let as_is = linked_none text link.Not (length before.pending) s (ap (last_link link.Not (length before.pending)) lone ∙ conj_link link.Not m q n refl refl) in
+      let as_is = linked_none link.Not (length before.pending) s (ap (last_link link.Not (length before.pending)) lone ∙ conj_link link.Not m q n refl refl) in
       subst LoneUnit (sym as_is) (record { disj = m; conj = q; nest = n; value = b; pending = lone; code = c; rest = r })
-  lone_by text s m q (x ∷ xs) n b p c r e =
+  lone_by s m q (x ∷ xs) n b p c r e =
       let outer = around (length before.code) n in
       let words = waits Or m ++ waits And q in
       let last : s.pending ≡ before.pending ++ ((outer ++ (words ++ denials xs)) ++ Not x ∷ []) = p ∙ ap (λ os. before.pending ++ os) (ap (λ os. outer ++ os) (sym (append_assoc words (denials xs) _)) ∙ sym (append_assoc outer (words ++ denials xs) _)) in
@@ -408,8 +403,8 @@ module _ (before : Snap) where
       let z : ◌≡◌ {A = ℕ} 0 1 = let f = ap is_some some in cc in
       absurd (omega arith)
 
-  lone_unit : (text : List ℕ) (s : Snap) → BehindUnit before s → is_some (last_link link.Not (length before.pending) s.pending) ≡ false → LoneUnit (linked text link.Not (length before.pending) s)
-  lone_unit text s h e = lone_by text s h.level.disj h.level.conj h.level.nots h.nest h.value h.pending h.code h.rest e
+  lone_unit : (s : Snap) → BehindUnit before s → is_some (last_link link.Not (length before.pending) s.pending) ≡ false → LoneUnit (linked link.Not (length before.pending) s)
+  lone_unit s h e = lone_by s h.level.disj h.level.conj h.level.nots h.nest h.value h.pending h.code h.rest e
 
   -- a conjunction so far, behind which none waits
   pub record LoneConjunction (s : Snap) : Type 0 where
@@ -420,29 +415,29 @@ module _ (before : Snap) where
     pub code : s.code ≡ before.code ++ ((nest_code nest ++ left_code disj) ++ code_bool value [])
     pub rest : formula∞ before.ahead ≡ after_unit (record { disj = disj; conj = None; nots = [] }) nest value s.ahead
 
-  conj_written_by : (text : List ℕ) (s : Snap) (m q : Option Waiting) (n : Nest) (b : BoolExpr) → s.pending ≡ before.pending ++ (around (length before.code) n ++ (waits Or m ++ waits And q)) → s.code ≡ before.code ++ ((nest_code n ++ (left_code m ++ left_code q)) ++ code_bool b []) → formula∞ before.ahead ≡ after_unit (record { disj = m; conj = q; nots = [] }) n b s.ahead → LoneConjunction (linked text link.And (length before.pending) s)
+  conj_written_by : (s : Snap) (m q : Option Waiting) (n : Nest) (b : BoolExpr) → s.pending ≡ before.pending ++ (around (length before.code) n ++ (waits Or m ++ waits And q)) → s.code ≡ before.code ++ ((nest_code n ++ (left_code m ++ left_code q)) ++ code_bool b []) → formula∞ before.ahead ≡ after_unit (record { disj = m; conj = q; nots = [] }) n b s.ahead → LoneConjunction (linked link.And (length before.pending) s)
   unfolding code_bool
-  conj_written_by text s m None n b p c r =
+  conj_written_by s m None n b p c r =
       let lone : s.pending ≡ before.pending ++ (around (length before.code) n ++ waits Or m) = p ∙ ap (λ os. before.pending ++ (around (length before.code) n ++ os)) (append-nil (waits Or m)) in
-      let as_is = linked_none text link.And (length before.pending) s (ap (last_link link.And (length before.pending)) lone ∙ disj_link link.And m n refl) in
+      let as_is = linked_none link.And (length before.pending) s (ap (last_link link.And (length before.pending)) lone ∙ disj_link link.And m n refl) in
       let code = c ∙ ap (λ is. before.code ++ ((nest_code n ++ is) ++ code_bool b [])) (append-nil (left_code m)) in
       subst LoneConjunction (sym as_is) (record { disj = m; nest = n; value = b; pending = lone; code = code; rest = r })
-  conj_written_by text s m (Some w) n b p c r =
+  conj_written_by s m (Some w) n b p c r =
       let outer = around (length before.code) n in
       let last : s.pending ≡ before.pending ++ ((outer ++ waits Or m) ++ And w.place ∷ []) = p ∙ ap (λ os. before.pending ++ os) (sym (append_assoc outer (waits Or m) _)) in
-      let done = linked_by text link.And s (outer ++ waits Or m) (And w.place) (node.And w.place) last refl in
+      let done = linked_by link.And s (outer ++ waits Or m) (And w.place) (node.And w.place) last refl in
       let code = ap (λ is. is ++ instr.conj ∷ []) (c ∙ ap (λ is. before.code ++ (is ++ code_bool b [])) (sym (append_assoc (nest_code n) (left_code m) _))) ∙ append_assoc before.code _ _ ∙ ap (λ is. before.code ++ is) (code_joined w.left b (conj w.left b) instr.conj (nest_code n ++ left_code m) refl) in
       subst LoneConjunction (sym done) (record { disj = m; nest = n; value = conj w.left b; pending = refl; code = code; rest = r })
 
-  conj_written : (text : List ℕ) (s : Snap) → LoneUnit s → LoneConjunction (linked text link.And (length before.pending) s)
-  conj_written text s h = conj_written_by text s h.disj h.conj h.nest h.value h.pending h.code h.rest
+  conj_written : (s : Snap) → LoneUnit s → LoneConjunction (linked link.And (length before.pending) s)
+  conj_written s h = conj_written_by s h.disj h.conj h.nest h.value h.pending h.code h.rest
 
   -- behind a unit, once what it completes is written
-  pub lone_conjunction : (text : List ℕ) (s t u : Snap) (base : ℕ) → base ≡ length before.pending → t ≡ linked text link.Not base s → u ≡ linked text link.And base t → is_some (last_link link.Not base s.pending) ≡ false → BehindUnit before s → LoneConjunction u
-  lone_conjunction text s t u base b e f lone h =
+  pub lone_conjunction : (s t u : Snap) (base : ℕ) → base ≡ length before.pending → t ≡ linked link.Not base s → u ≡ linked link.And base t → is_some (last_link link.Not base s.pending) ≡ false → BehindUnit before s → LoneConjunction u
+  lone_conjunction s t u base b e f lone h =
       let at_base : is_some (last_link link.Not (length before.pending) s.pending) ≡ false = ap (λ k. is_some (last_link link.Not k s.pending)) (sym b) ∙ lone in
-      let unit : LoneUnit t = subst LoneUnit (ap (λ k. linked text link.Not k s) (sym b) ∙ sym e) (lone_unit text s h at_base) in
-      subst LoneConjunction (ap (λ k. linked text link.And k t) (sym b) ∙ sym f) (conj_written text t unit)
+      let unit : LoneUnit t = subst LoneUnit (ap (λ k. linked link.Not k s) (sym b) ∙ sym e) (lone_unit s h at_base) in
+      subst LoneConjunction (ap (λ k. linked link.And k t) (sym b) ∙ sym f) (conj_written t unit)
 
   -- b and
   pub and_reads : (s : Snap) (p : Place) → LoneConjunction s → starts the.And s.ahead ≡ true → AtUnit before (advanced (opened (And p) s))
@@ -465,21 +460,21 @@ module _ (before : Snap) where
     pub code : s.code ≡ before.code ++ (nest_code nest ++ code_bool value [])
     pub rest : formula∞ before.ahead ≡ after_conjunction None nest value s.ahead
 
-  disj_written_by : (text : List ℕ) (s : Snap) (m : Option Waiting) (n : Nest) (b : BoolExpr) → s.pending ≡ before.pending ++ (around (length before.code) n ++ waits Or m) → s.code ≡ before.code ++ ((nest_code n ++ left_code m) ++ code_bool b []) → formula∞ before.ahead ≡ after_conjunction m n b s.ahead → LoneDisjunction (linked text link.Or (length before.pending) s)
+  disj_written_by : (s : Snap) (m : Option Waiting) (n : Nest) (b : BoolExpr) → s.pending ≡ before.pending ++ (around (length before.code) n ++ waits Or m) → s.code ≡ before.code ++ ((nest_code n ++ left_code m) ++ code_bool b []) → formula∞ before.ahead ≡ after_conjunction m n b s.ahead → LoneDisjunction (linked link.Or (length before.pending) s)
   unfolding code_bool
-  disj_written_by text s None n b p c r =
+  disj_written_by s None n b p c r =
       let lone : s.pending ≡ before.pending ++ around (length before.code) n = p ∙ ap (λ os. before.pending ++ os) (append-nil (around (length before.code) n)) in
-      let as_is = linked_none text link.Or (length before.pending) s (ap (last_link link.Or (length before.pending)) lone ∙ nest_link link.Or n) in
+      let as_is = linked_none link.Or (length before.pending) s (ap (last_link link.Or (length before.pending)) lone ∙ nest_link link.Or n) in
       let code = c ∙ ap (λ is. before.code ++ (is ++ code_bool b [])) (append-nil (nest_code n)) in
       subst LoneDisjunction (sym as_is) (record { nest = n; value = b; pending = lone; code = code; rest = r })
-  disj_written_by text s (Some w) n b p c r =
-      let done = linked_by text link.Or s (around (length before.code) n) (Or w.place) (node.Or w.place) p refl in
+  disj_written_by s (Some w) n b p c r =
+      let done = linked_by link.Or s (around (length before.code) n) (Or w.place) (node.Or w.place) p refl in
       let code = ap (λ is. is ++ instr.disj ∷ []) c ∙ append_assoc before.code _ _ ∙ ap (λ is. before.code ++ is) (code_joined w.left b (disj w.left b) instr.disj (nest_code n) refl) in
       subst LoneDisjunction (sym done) (record { nest = n; value = disj w.left b; pending = refl; code = code; rest = r })
 
   -- behind a conjunction, once what it completes is written
-  pub lone_disjunction : (text : List ℕ) (s t : Snap) (base : ℕ) → base ≡ length before.pending → t ≡ linked text link.Or base s → BehindConjunction before s → LoneDisjunction t
-  lone_disjunction text s t base b e h = subst LoneDisjunction (ap (λ k. linked text link.Or k s) (sym b) ∙ sym e) (disj_written_by text s h.disj h.nest h.value h.pending h.code h.rest)
+  pub lone_disjunction : (s t : Snap) (base : ℕ) → base ≡ length before.pending → t ≡ linked link.Or base s → BehindConjunction before s → LoneDisjunction t
+  lone_disjunction s t base b e h = subst LoneDisjunction (ap (λ k. linked link.Or k s) (sym b) ∙ sym e) (disj_written_by s h.disj h.nest h.value h.pending h.code h.rest)
 
   -- b or
   pub or_reads : (s : Snap) (p : Place) → LoneDisjunction s → starts the.Or s.ahead ≡ true → AtUnit before (advanced (opened (Or p) s))
@@ -583,7 +578,7 @@ module _ (before : Snap) where
   in_nothing s (implied h) i b a = i _ (sym (implied_last s h))
 
   -- out of brackets or an `all`
-  leaves : (s : Snap) (c : Context) (h : Closing c s) (us : List Token) (is : List Instr) → expect (closer c) s.ahead ≡ Some us → is ≡ before.code ++ ((nest_code h.nest ++ level_code h.level) ++ code_bool (wrapped c h.value) []) → BehindUnit before (record { code = is; pending = (closed s).pending; ahead = us; code_room = s.code_room; pending_room = s.pending_room })
+  leaves : (s : Snap) (c : Context) (h : Closing c s) (us : List Token) (is : List Instr) → expect (closer c) s.ahead ≡ Some us → is ≡ before.code ++ ((nest_code h.nest ++ level_code h.level) ++ code_bool (wrapped c h.value) []) → BehindUnit before (record s { code = is; pending = (closed s).pending; ahead = us })
   leaves s c h us is e k = record {
     level = h.level;
     nest = h.nest;

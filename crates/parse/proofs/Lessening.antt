@@ -1,8 +1,8 @@
 -- What is read leaves fewer tokens, without a bound on depth.
 use Rattle.std.proofs.Common.{List, length}
 use Rattle.lang.specs.Tokens.{Token}
-use Rattle.parse.specs.Unbounded.{if_head∞, while_head∞, statement∞, procedure∞}
-use Rattle.parse.proofs.Shorter.{Shorter, if_head_shorter, while_head_shorter, statement_shorter, procedure_shorter}
+use Rattle.parse.specs.Unbounded.{if_head∞, while_head∞, statement∞}
+use Rattle.parse.proofs.Shorter.{Shorter, if_head_shorter, while_head_shorter, statement_shorter}
 
 pub if_head∞-shorter : (ts : List Token) → Shorter (length ts) (if_head∞ ts)
 unfolding if_head∞
@@ -15,7 +15,3 @@ while_head∞-shorter ts = while_head_shorter _ ts
 pub statement∞-shorter : (ts : List Token) → Shorter (length ts) (statement∞ ts)
 unfolding statement∞
 statement∞-shorter ts = statement_shorter _ ts
-
-pub procedure∞-shorter : (ts : List Token) → Shorter (length ts) (procedure∞ ts)
-unfolding procedure∞
-procedure∞-shorter ts = procedure_shorter _ ts

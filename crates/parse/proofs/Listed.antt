@@ -1,5 +1,5 @@
 -- Reading items with commas, whatever the items are.
-use Rattle.std.proofs.Common.{◌≡◌, Bool, true, false, cond, List, [], ◌∷◌, ◌++◌, Some, None, sym, refl, ap, ◌∙◌, append_assoc, append-nil}
+use Rattle.std.proofs.Common.{◌≡◌, Bool, true, false, cond, List, [], ◌∷◌, ◌++◌, Some, None, sym, refl, ap, ◌∙◌, append_assoc}
 use Rattle.lang.specs.Base.{◌>>=◌}
 use Rattle.lang.specs.Grammar.{Parsed, starts, onward, expect}
 use Rattle.lang.specs.Instr.{Instr}
@@ -9,16 +9,13 @@ use Rattle.lang.specs.declared.token.Fixed.TheVariants.{Comma}
 use Rattle.lang.proofs.Codes.{Front}
 use Rattle.parse.specs.Listed.{codes, AtItem}
 use Rattle.parse.specs.Reading.{Snap, Read, advanced}
-use Rattle.parse.proofs.Binds.{>>=-assoc, >>=-ext, >>=-some}
+use Rattle.parse.proofs.Binds.{>>=-assoc, >>=-ext}
 
 pub codes_more : {A : Type 0} (coding : A → List Instr → List Instr) → ((x : A) → Front (coding x)) → (xs : List A) (x : A) → codes coding (xs ++ x ∷ []) ≡ codes coding xs ++ coding x []
 codes_more coding front [] x = refl
 codes_more coding front (y ∷ xs) x = ap (coding y) (codes_more coding front xs x) ∙ (front y).splits (codes coding xs ++ coding x []) ∙ sym (append_assoc (coding y []) (codes coding xs) (coding x [])) ∙ ap (λ is. is ++ coding x []) (sym ((front y).splits (codes coding xs)))
 
 module _ {A : Type 0} (item : List Token → Parsed A) (coding : A → List Instr → List Instr) (front : (x : A) → Front (coding x)) (last : Fixed) (items : List Token → Parsed (List A)) (rule : (ts : List Token) → items ts ≡ (item ts >>= λ p. cond (starts Comma p.1) (items (onward p.1) >>= λ q. Some (p.0 ∷ q.0, q.1)) (expect last p.1 >>= λ us. Some (p.0 ∷ [], us)))) where
-  pub first_item : (s : Snap) → AtItem items coding s s
-  first_item s = record { read = []; code = sym (append-nil s.code); pending = refl; rest = sym (>>=-some (items s.ahead)) }
-
   -- behind an item, by whether there is a comma
   abbrev after : List A → A → List Token → Bool → Parsed (List A)
   after xs x us b = cond b (items (onward us) >>= λ q. Some (xs ++ x ∷ q.0, q.1)) (expect last us >>= λ vs. Some (xs ++ x ∷ [], vs))

@@ -1,6 +1,5 @@
 -- Statements that have no statements inside.
-use Rattle.std.proofs.Common.{◌≡◌, ℕ, ◌+◌, ◌<◌, true, false, List, [], ◌∷◌, ◌++◌, length, Some, None, sym, refl, ap, ◌∙◌, subst, append_assoc, arith}
-use Rattle.std.proofs.lemmas.List.{length_push}
+use Rattle.std.proofs.Common.{◌≡◌, ℕ, true, false, List, [], ◌∷◌, ◌++◌, Some, None, sym, ap, ◌∙◌, append_assoc, arith}
 use Rattle.lang.specs.Base.{◌>>=◌, Word}
 use Rattle.lang.specs.Code.{code_expr, code_stmt}
 use Rattle.lang.specs.Grammar.{starts, onward, expect, a_name, ended, else_head}
@@ -10,22 +9,10 @@ use Rattle.lang.specs.Syntax.{Expr, assign, branch, loop, check, havoc}
 use Rattle.lang.specs.Tokens.{Token, fixed, name, number, stray}
 use Rattle.lang.specs.declared.token.Fixed.TheVariants as the
 use Rattle.lang.proofs.Codes.{expr_front}
-use Rattle.parse.specs.Reading.{Snap, Read, Room, Paid, advanced, emitted}
+use Rattle.parse.specs.Reading.{Snap, Read, advanced, emitted}
 use Rattle.parse.specs.Unbounded.{sum∞, formula∞, named_statement∞, if_head∞, while_head∞, block∞, statement∞}
-use Rattle.parse.proofs.Heads.{fixed_ahead, expect_starts}
-use Rattle.parse.proofs.Rooms.{paid_then, paid_advance}
+use Rattle.parse.proofs.Heads.{fixed_ahead}
 use Rattle.parse.proofs.Rules.{named_statement_rule, statement_end, statement_fixed, statement_name, statement_number, statement_stray}
-
--- the last instruction, and the semicolon
-pub paid_end : (s : Snap) (i : Instr) (us : List Token) → expect the.Semicolon s.ahead ≡ Some us → Paid s (advanced (emitted i s))
-paid_end s i us e = record { code = omega (arith, length_push s.code i, expect_starts the.Semicolon s.ahead us e); pending = omega (arith, expect_starts the.Semicolon s.ahead us e); code_room = refl; pending_room = refl }
-
--- an instruction, and the first token
-pub paid_begin : (s : Snap) (i : Instr) → length s.ahead ≡ 1 + length (onward s.ahead) → Paid s (advanced (emitted i s))
-paid_begin s i l = record { code = omega (arith, length_push s.code i, l); pending = omega (arith, l); code_room = refl; pending_room = refl }
-
-pub begun_room : (s u : Snap) (i : Instr) → Room s → length s.ahead ≡ 1 + length (onward s.ahead) → Paid (advanced (emitted i s)) u → length u.code < u.code_room
-begun_room s u i r l p = omega (arith, r.code, p.code, p.code_room, length_push s.code i, l)
 
 -- x = e;
 module _ (x : Word) (s : Snap) (b : starts the.LeftParen s.ahead ≡ false) (b' : starts the.LeftBracket s.ahead ≡ false) where
@@ -48,9 +35,6 @@ module _ (x : Word) (s : Snap) (b : starts the.LeftParen s.ahead ≡ false) (b' 
         code = ap (λ r. r.code) last ∙ ap (λ k. k ++ instr.assign x ∷ []) h.code ∙ append_assoc t.code (code_expr h.value []) _ ∙ (λ j. (first j).code ++ sym ((expr_front h.value).splits (instr.assign x ∷ [])) j);
         pending = ap (λ r. r.pending) last ∙ h.pending ∙ ap (λ r. r.pending) first;
       }
-
-      pub assign_paid : t ≡ advanced s → Paid t u → (v : Snap) → expect the.Semicolon u.ahead ≡ Some v.ahead → v ≡ advanced (emitted (instr.assign x) u) → Paid s v
-      assign_paid first p v f last = paid_then s t v (subst (Paid s) (sym first) (paid_advance s (expect_starts the.Gets s.ahead t.ahead e))) (paid_then t u v p (subst (Paid u) (sym last) (paid_end u (instr.assign x) v.ahead f)))
 
 -- A statement by its first token.
 pub statement_check : (ts : List Token) → starts the.Check ts ≡ true → statement∞ ts ≡ (formula∞ (onward ts) >>= λ p. ended (check p.0) p.1)

@@ -1,9 +1,9 @@
 -- Whole procedures.
-use Rattle.std.proofs.Common.{◌≡◌, ◌+◌, ◌-◌, ◌<◌, List, [], ◌∷◌, ◌++◌, length, set, Some, Option, sym, refl, ap, ◌∙◌, subst, append_assoc, arith, length-append}
+use Rattle.std.proofs.Common.{◌≡◌, ◌+◌, ◌-◌, List, [], ◌∷◌, ◌++◌, length, set, Some, Option, sym, refl, ap, ◌∙◌, append_assoc, arith, length-append}
 use Rattle.std.proofs.lemmas.List.{length_push, set_at}
 use Rattle.lang.specs.Base.{◌>>=◌}
 use Rattle.lang.specs.Code.{code_expr, code_bool, code_block, code_params, code_locals, code_parts, code_proc}
-use Rattle.lang.specs.Grammar.{onward, expect, a_name}
+use Rattle.lang.specs.Grammar.{expect, a_name}
 use Rattle.lang.specs.Instr as instr
 use Rattle.lang.specs.Instr.{Instr}
 use Rattle.lang.specs.Syntax.{Proc}
@@ -12,22 +12,11 @@ use Rattle.lang.specs.declared.token.Fixed.TheVariants as the
 use Rattle.lang.proofs.Codes.{params_front, locals_front, bool_front, expr_front, block_front}
 use Rattle.parse.specs.Parts.{part_code, measure_code}
 use Rattle.parse.specs.Procedures.{Signature, Terms, Body, signature∞, terms∞, body∞, signature_code, terms_code, body_code}
-use Rattle.parse.specs.Reading.{Snap, Read, Room, Paid, advanced, emitted, patched}
+use Rattle.parse.specs.Reading.{Snap, Read, patched}
 use Rattle.parse.specs.Unbounded.{parameters∞, condition∞, measured∞, local_variables∞, block∞, procedure∞}
-use Rattle.parse.specs.declared.parts.Part.TheVariants.{Pre, Post}
+use Rattle.parse.specs.declared.parts.Header.TheVariants.{Pre, Post}
 use Rattle.parse.proofs.Binds.{>>=-assoc, >>=-ext}
 use Rattle.parse.proofs.Rules.{procedure_rule}
-
--- the brace pays for the instruction with the body's length, and for the last
-module _ (s t u : Snap) (first : t ≡ advanced s) (l : length s.ahead ≡ 1 + length (onward s.ahead)) (p : Paid t u) where
-  pub body_begins : Paid s (emitted (instr.body 0) u)
-  body_begins = let q = subst (λ r. Paid r u) first p in record { code = omega (arith, q.code, l, length_push u.code (instr.body 0)); pending = omega (arith, q.pending, l); code_room = q.code_room; pending_room = q.pending_room }
-
-  pub body_paid : (v : Snap) → Paid (emitted (instr.body 0) u) v → Paid s (emitted instr.end_proc v)
-  body_paid v r = let q = subst (λ r. Paid r u) first p in record { code = omega (arith, q.code, r.code, l, length_push u.code (instr.body 0), length_push v.code instr.end_proc); pending = omega (arith, q.pending, r.pending, l); code_room = r.code_room ∙ q.code_room; pending_room = r.pending_room ∙ q.pending_room }
-
-pub body_room : (s t u v : Snap) → Room s → t ≡ advanced s → length s.ahead ≡ 1 + length (onward s.ahead) → Paid t u → Paid (emitted (instr.body 0) u) v → length v.code < v.code_room
-body_room s t u v room first l p r = let q = body_paid s t u first l p v r in omega (arith, q.code, q.code_room, room.code, length_push v.code instr.end_proc)
 
 -- The grammar's procedure in its three parts.
 module _ {A : Type 0} (ts : List Token) where

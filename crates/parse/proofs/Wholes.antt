@@ -1,5 +1,6 @@
 -- Whole texts.
-use Rattle.std.proofs.Common.{◌≡◌, ℕ, ◌*◌, ◌≤◌, Bool, true, false, List, [], ◌∷◌, ◌++◌, length, Some, None, sym, refl, ap, ◌∙◌, append_assoc, append-nil, arith}
+use Rattle.std.proofs.Common.{◌≡◌, ℕ, ◌*◌, ◌≤◌, Bool, true, false, true≢false, eqb, List, [], ◌∷◌, ◌++◌, length, Some, None, sym, refl, ap, ◌∙◌, append_assoc, append-nil, arith}
+use Rattle.std.proofs.lemmas.Bool.{eqb-true}
 use Rattle.lang.specs.Base.{◌>>=◌, when}
 use Rattle.lang.specs.Code.{code_proc, code_procs}
 use Rattle.lang.specs.Grammar.{is, expect, a_number, reads}
@@ -12,7 +13,7 @@ use Rattle.parse.specs.Listed.{codes}
 use Rattle.parse.specs.Reading.{Snap, Read, Room, advanced}
 use Rattle.parse.specs.Unbounded.{procedure∞, procedures∞}
 use Rattle.parse.specs.Whole.{AtProcedure, AllRead, WholeRead, program∞}
-use Rattle.parse.proofs.Binds.{>>=-assoc, >>=-ext, >>=-some}
+use Rattle.parse.proofs.Binds.{>>=-assoc, >>=-ext}
 use Rattle.parse.proofs.Listed.{codes_more}
 use Rattle.parse.proofs.Rules.{procedures_end, procedures_rule, reads_rule}
 
@@ -32,25 +33,30 @@ procedures_by (t ∷ ts) h = procedures_rule t ts ∙ go (is the.Proc t)
     go true = refl
     go false = refl
 
-pub first_procedure : (s : Snap) → AtProcedure s s
-first_procedure s = record { read = []; code = sym (append-nil s.code); pending = refl; rest = sym (>>=-some (procedures∞ s.ahead)) }
+none_left : (ts : List Token) → eqb (length ts) 0 ≡ true → ts ≡ []
+none_left [] e = refl
+none_left (t ∷ ts) e = absurd (omega (arith, eqb-true (length (t ∷ ts)) 0 e))
 
 module _ (before s : Snap) (h : AtProcedure before s) where
-  pub all_read : s.ahead ≡ [] → AllRead before s
-  all_read e = record { procs = h.read; parsed = h.rest ∙ rw (e, procedures_end) (ap Some (append-nil h.read)); code = h.code ∙ ap (λ k. before.code ++ k) (procs_code h.read) }
+  pub all_read : eqb (length s.ahead) 0 ≡ true → AllRead before s
+  all_read at_end = let e = none_left s.ahead at_end in record { procs = h.read; parsed = h.rest ∙ rw (e, procedures_end) (ap Some (append-nil h.read)); code = h.code ∙ ap (λ k. before.code ++ k) (procs_code h.read); text = h.text }
 
-  module _ (some : s.ahead ≡ [] → ⊥) where
+  module _ (more : eqb (length s.ahead) 0 ≡ false) where
+    some : s.ahead ≡ [] → ⊥
+    some e = let z : true ≡ false = ap (λ ts. eqb (length ts) 0) (sym e) ∙ more in true≢false z
+
     pub no_procedure : expect the.Proc s.ahead ≡ None → procedures∞ before.ahead ≡ None
     no_procedure e = h.rest ∙ rw (procedures_by s.ahead some, e)
 
     pub unread_procedure : (t : Snap) → expect the.Proc s.ahead ≡ Some t.ahead → procedure∞ t.ahead ≡ None → procedures∞ before.ahead ≡ None
     unread_procedure t e n = h.rest ∙ rw (procedures_by s.ahead some, e, n)
 
-    pub next_procedure : (t u : Snap) → expect the.Proc s.ahead ≡ Some t.ahead → t ≡ advanced s → Read procedure∞ (λ q. code_proc q []) t u → AtProcedure before u
-    next_procedure t u e first r = record {
+    pub next_procedure : (t u : Snap) → expect the.Proc s.ahead ≡ Some t.ahead → t ≡ advanced s → Read procedure∞ (λ q. code_proc q []) t u → u.text ≡ t.text → AtProcedure before u
+    next_procedure t u e first r same = record {
       read = h.read ++ r.value ∷ [];
       code = r.code ∙ ap (λ x. x.code ++ code_proc r.value []) first ∙ ap (λ k. k ++ code_proc r.value []) h.code ∙ append_assoc before.code _ _ ∙ ap (λ k. before.code ++ k) (sym (codes_more code_proc proc_front h.read r.value));
       pending = r.pending ∙ ap (λ x. x.pending) first ∙ h.pending;
+      text = same ∙ ap (λ x. x.text) first ∙ h.text;
       rest = h.rest ∙ rw (procedures_by s.ahead some, e, r.parsed) (>>=-assoc (procedures∞ u.ahead) _ _) ∙ >>=-ext (procedures∞ u.ahead) (λ qs. ap Some (sym (append_assoc h.read (r.value ∷ []) qs)));
     }
 
@@ -60,7 +66,7 @@ reads_is text = reads_rule text
 
 pub whole_read : (s t u v w : Snap) (n : ℕ) → expect the.Width s.ahead ≡ Some t.ahead → t ≡ advanced s → a_number t.ahead ≡ Some (n, u.ahead) → u ≡ advanced t → expect the.Semicolon u.ahead ≡ Some v.ahead → v ≡ advanced u → AllRead v w → WholeRead s w n
 unfolding program∞
-whole_read s t u v w n e₁ f₁ e₂ f₂ e₃ f₃ r = record { procs = r.procs; parsed = rw (e₁, e₂, e₃, r.parsed); code = r.code ∙ ap (λ k. k ++ code_procs r.procs []) (ap (λ x. x.code) f₃ ∙ ap (λ x. x.code) f₂ ∙ ap (λ x. x.code) f₁) }
+whole_read s t u v w n e₁ f₁ e₂ f₂ e₃ f₃ r = record { procs = r.procs; parsed = rw (e₁, e₂, e₃, r.parsed); code = r.code ∙ ap (λ k. k ++ code_procs r.procs []) (ap (λ x. x.code) f₃ ∙ ap (λ x. x.code) f₂ ∙ ap (λ x. x.code) f₁); text = r.text ∙ ap (λ x. x.text) f₃ ∙ ap (λ x. x.text) f₂ ∙ ap (λ x. x.text) f₁ }
 
 -- a text has no more tokens than bytes, so the tables have room for all
 pub room_for : (text : List ℕ) (s : Snap) → s.code ≡ [] → s.pending ≡ [] → s.ahead ≡ tokens text → 2 * length text ≤ s.code_room → length text ≤ s.pending_room → Room s

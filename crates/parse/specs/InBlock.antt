@@ -1,5 +1,5 @@
 -- Where a reader is inside a block: the statements that it has read, and what the block stands in.
-use Rattle.std.specs.Prelude.{◌≡◌, ℕ, ◌+◌, ◌-◌, Bool, true, false, List, [], ◌∷◌, ◌++◌, length, Some}
+use Rattle.std.specs.Prelude.{◌≡◌, ℕ, ◌+◌, Bool, true, false, List, [], ◌∷◌, ◌++◌, length, Some}
 use Rattle.lang.specs.Base.{◌>>=◌}
 use Rattle.lang.specs.Code.{code_bool, code_stmt, code_block}
 use Rattle.lang.specs.Grammar.{Parsed, else_head, LoopHead}
@@ -8,14 +8,15 @@ use Rattle.lang.specs.Instr.{Instr}
 use Rattle.lang.specs.Syntax.{BoolExpr, Stmt, branch, loop, Block, end, seq}
 use Rattle.lang.specs.Tokens.{Token}
 use Rattle.parse.specs.Listed.{codes}
-use Rattle.parse.specs.Parts.{part_code, measure_code}
-use Rattle.parse.specs.Reading.{Snap, Read, advanced, emitted, opened, patched}
+use Rattle.parse.specs.Parts.{header_instr, part_code, measure_code}
+use Rattle.parse.specs.Reading.{Snap, Read, advanced, emitted, opened}
 use Rattle.parse.specs.Unbounded.{block∞}
 use Rattle.parse.specs.declared.open.Open.{Open}
-use Rattle.parse.specs.declared.open.Open.TheVariants.{Then, Else, Do}
-use Rattle.parse.specs.declared.parts.Part.TheVariants.{Test, Invariant}
-use Rattle.parse.specs.declared.statements.Kind.{Kind}
-use Rattle.parse.specs.declared.statements.Kind.TheVariants as kind
+use Rattle.parse.specs.declared.open.Open.TheVariants.{Braces}
+use Rattle.parse.specs.declared.parts.Header.TheVariants as header
+use Rattle.parse.specs.declared.parts.Header.TheVariants.{Test, Invariant}
+use Rattle.parse.specs.declared.open.Kind.{Kind}
+use Rattle.parse.specs.declared.open.Kind.TheVariants as kind
 
 -- statements in front of a block
 abbrev pub listed : List Stmt → Block → Block
@@ -31,9 +32,9 @@ pub data Nest : Type 0 where
 
 abbrev pub around : Nest → List Open
 around outermost = []
-around (in_then b at ss n) = around n ++ Then at ∷ []
-around (in_else b c at ss n) = around n ++ Else at ∷ []
-around (in_loop h at ss n) = around n ++ Do at ∷ []
+around (in_then b at ss n) = around n ++ Braces kind.Then at ∷ []
+around (in_else b c at ss n) = around n ++ Braces kind.Else at ∷ []
+around (in_loop h at ss n) = around n ++ Braces kind.Do at ∷ []
 
 -- the code of a head, up to the length of the block that follows
 abbrev pub then_code : BoolExpr → List Instr
@@ -93,24 +94,9 @@ pub record BlockWhole (before s : Snap) : Type 0 where
   pub code : s.code ≡ before.code ++ (nest_code nest ++ codes code_stmt read)
   pub rest : block∞ before.ahead ≡ after_block nest (listed read end) s.ahead
 
--- The three kinds of blocks inside statements: the instruction with the block's length, and the part that is open.
-abbrev pub kind_instr : Kind → ℕ → Instr
-kind_instr kind.Then n = instr.then n
-kind_instr kind.Else n = instr.else n
-kind_instr kind.Do n = instr.rounds n
-
-abbrev pub kind_part : Kind → ℕ → Open
-kind_part kind.Then n = Then n
-kind_part kind.Else n = Else n
-kind_part kind.Do n = Do n
-
 -- where a block of that kind has been opened
 abbrev pub block_opened : Kind → Snap → Snap
-block_opened k s = opened (kind_part k (length s.code)) (emitted (kind_instr k 0) (advanced s))
-
--- where the length of such a block has been written
-abbrev pub sealed : Kind → ℕ → Snap → Snap
-sealed k at s = patched at (kind_instr k (length s.code - (at + 1))) s
+block_opened k s = opened (Braces k (length s.code)) (emitted (header_instr (header.Block k) 0) (advanced s))
 
 -- A head has been read up to the brace of its block, which is open now.
 pub record Headed {A : Type 0} (parse : List Token → Parsed A) (coding : A → List Instr) (kind : Kind) (before after : Snap) : Type 0 where
@@ -119,7 +105,7 @@ pub record Headed {A : Type 0} (parse : List Token → Parsed A) (coding : A →
   pub code : after.code ≡ before.code ++ coding value
   pub at : ℕ
   pub placed : at + 1 ≡ length after.code
-  pub pending : after.pending ≡ before.pending ++ kind_part kind at ∷ []
+  pub pending : after.pending ≡ before.pending ++ Braces kind at ∷ []
 
 -- behind a brace: the whole block, or only the one inside
 abbrev pub Closed : Snap → Snap → Bool → Type 0

@@ -1,5 +1,5 @@
 -- Where a reader is inside a formula: what waits for the part behind it, what it stands in, and what comes of it.
-use Rattle.std.specs.Prelude.{◌≡◌, ℕ, ◌+◌, ◌-◌, ◌*◌, ◌<◌, Bool, true, false, cond, List, [], ◌∷◌, ◌++◌, length, Some, None, Option, Result, MatchResult, nat_lt}
+use Rattle.std.specs.Prelude.{◌≡◌, ℕ, ◌+◌, ◌*◌, ◌<◌, Bool, true, false, cond, List, [], ◌∷◌, ◌++◌, length, Some, None, Option, Result, MatchResult}
 use Rattle.lang.specs.Base.{◌>>=◌, maybe, when, Word}
 use Rattle.lang.specs.Code.{code_bool}
 use Rattle.lang.specs.Grammar.{Parsed, starts, onward, expect, a_name, a_number, comparing}
@@ -12,14 +12,16 @@ use Rattle.lang.specs.declared.code.Node.TheVariants as node
 use Rattle.lang.specs.declared.code.Place.{Place}
 use Rattle.lang.specs.declared.token.Fixed.{Fixed}
 use Rattle.lang.specs.declared.token.Fixed.TheVariants as the
-use Rattle.parse.specs.Reading.{Snap, Read, Paid, opened, emitted, patched, closed, last_open}
+use Rattle.parse.specs.Parts.{sealed}
+use Rattle.parse.specs.Reading.{Snap, Read, Paid, opened, emitted, closed, last_above}
 use Rattle.parse.specs.Unbounded.{sum∞, formula∞, disjunction_rest∞, conjunction_rest∞, unit∞}
 use Rattle.parse.specs.declared.formula.Link.{Link}
 use Rattle.parse.specs.declared.formula.Link.TheVariants as link
 use Rattle.parse.specs.declared.formula.Turn.{Turn}
 use Rattle.parse.specs.declared.formula.Turn.TheVariants as turn
 use Rattle.parse.specs.declared.open.Open.{Open}
-use Rattle.parse.specs.declared.open.Open.TheVariants.{Paren, Index, OldIndex, Operator, Bracket, And, Or, Implies, Not, All, Then, Else, Do}
+use Rattle.parse.specs.declared.open.Open.TheVariants.{Paren, Index, OldIndex, Operator, Bracket, And, Or, Implies, Not, All, Braces}
+use Rattle.parse.specs.declared.parts.Header.TheVariants.{Scope}
 use Rattle.parse.specs.declared.refusal.NoText.{NoText}
 
 -- a left side, and where the word behind it stands
@@ -154,15 +156,13 @@ of_link l (Operator o p) = None
 of_link l Bracket = None
 of_link l (Implies p) = None
 of_link l (All n) = None
-of_link l (Then n) = None
-of_link l (Else n) = None
-of_link l (Do n) = None
+of_link l (Braces k n) = None
 
 abbrev pub last_link : Link → ℕ → List Open → Option Node
-last_link l base os = when (nat_lt base (length os)) (last_open os >>= of_link l)
+last_link l base os = last_above base os >>= of_link l
 
-abbrev pub linked : List ℕ → Link → ℕ → Snap → Snap
-linked text l base s = maybe (last_link l base s.pending) s λ n. emitted (instr text n) (closed s)
+abbrev pub linked : Link → ℕ → Snap → Snap
+linked l base s = maybe (last_link l base s.pending) s λ n. emitted (instr s.text n) (closed s)
 
 -- Behind `all`.
 abbrev pub all_head : List Token → Parsed (Word × ℕ)
@@ -178,7 +178,7 @@ abbrev pub all_begun : Word → ℕ → Snap → Snap
 all_begun x n s = opened (All (length ((s.code ++ instr.all x ∷ []) ++ instr.bound n ∷ []))) (emitted (instr.scope 0) (emitted (instr.bound n) (emitted (instr.all x) s)))
 
 abbrev pub all_ended : ℕ → Snap → Snap
-all_ended at s = emitted instr.end_all (patched at (instr.scope (length s.code - at - 1)) s)
+all_ended at s = emitted instr.end_all (sealed Scope at s)
 
 -- A comparison.
 abbrev pub comparison∞ : List Token → Parsed BoolExpr
@@ -224,27 +224,27 @@ pub record BehindFormula (before s : Snap) : Type 0 where
   pub code : s.code ≡ before.code ++ (nest_code nest ++ code_bool value [])
   pub rest : formula∞ before.ahead ≡ after_formula nest value s.ahead
 
-abbrev pub InBool : Snap → Snap → Turn → Type 0
-InBool before s turn.Unit = AtUnit before s
-InBool before s turn.Behind = BehindUnit before s
-InBool before s turn.Whole = BehindFormula before s
-InBool before s turn.Done = Read formula∞ (λ b. code_bool b []) before s
+abbrev pub InBool : Snap → Snap → Option Turn → Type 0
+InBool before s (Some turn.Unit) = AtUnit before s
+InBool before s (Some turn.Behind) = BehindUnit before s
+InBool before s (Some turn.Whole) = BehindFormula before s
+InBool before s None = Read formula∞ (λ b. code_bool b []) before s
 
 -- What one turn does, from s to s': wherever the formula began, if the reader was inside it as Before says, it is so still, as the
 -- next turn says; or there is no formula.
 abbrev pub Turns : (Snap → Snap → Type 0) → Snap → Snap → Result Turn NoText → Type 0
-Turns Before s s' r = (before : Snap) → Before before s → MatchResult r (λ next. InBool before s' next) (λ _. formula∞ before.ahead ≡ None)
+Turns Before s s' r = (before : Snap) → Before before s → MatchResult r (λ next. InBool before s' (Some next)) (λ _. formula∞ before.ahead ≡ None)
 
 -- each turn reads a token, closes a part, or comes nearer to the end
-abbrev pub weight : Turn → ℕ
-weight turn.Unit = 3
-weight turn.Behind = 2
-weight turn.Whole = 1
-weight turn.Done = 0
+abbrev pub weight : Option Turn → ℕ
+weight (Some turn.Unit) = 3
+weight (Some turn.Behind) = 2
+weight (Some turn.Whole) = 1
+weight None = 0
 
-abbrev pub left : Turn → Snap → ℕ
+abbrev pub left : Option Turn → Snap → ℕ
 left t s = weight t + 4 * length s.ahead + 2 * length s.pending
 
-pub record Used (turn : Turn) (s s' : Snap) (next : Turn) : Type 0 where
+pub record Used (turn : Turn) (s s' : Snap) (next : Option Turn) : Type 0 where
   pub paid : Paid s s'
-  pub less : left next s' < left turn s
+  pub less : left next s' < left (Some turn) s

@@ -1,12 +1,12 @@
 -- Where a reader is inside an expression: the operators that wait for their right side, what it stands in, and what comes of it.
-use Rattle.std.specs.Prelude.{◌≡◌, ℕ, ◌+◌, ◌*◌, ◌<◌, Bool, true, false, cond, List, [], ◌∷◌, ◌++◌, length, Some, None, Option, Result, MatchResult, nat_lt}
+use Rattle.std.specs.Prelude.{◌≡◌, ℕ, ◌+◌, ◌*◌, ◌<◌, Bool, true, false, cond, List, [], ◌∷◌, ◌++◌, length, Some, None, Option, Result, MatchResult}
 use Rattle.parse.specs.declared.refusal.NoText.{NoText}
 use Rattle.lang.specs.Base.{◌>>=◌, maybe, when}
 use Rattle.lang.specs.Code.{code_expr}
 use Rattle.lang.specs.Grammar.{Parsed, starts, expect}
 use Rattle.lang.specs.Instr as instr
 use Rattle.lang.specs.Instr.{Instr, name_at}
-use Rattle.parse.specs.Reading.{Snap, Read, Paid, advanced, opened, emitted, closed, last_open}
+use Rattle.parse.specs.Reading.{Snap, Read, Paid, advanced, opened, emitted, closed, last_above}
 use Rattle.lang.specs.Syntax.{Expr, binary, index, old_index}
 use Rattle.lang.specs.Tokens.{Token}
 use Rattle.parse.specs.Unbounded.{sum∞, sum_rest∞, product_rest∞, atom∞}
@@ -14,7 +14,7 @@ use Rattle.lang.specs.declared.code.Place.{Place}
 use Rattle.parse.specs.declared.expression.Step.{Step}
 use Rattle.parse.specs.declared.expression.Step.TheVariants as step
 use Rattle.parse.specs.declared.open.Open.{Open}
-use Rattle.parse.specs.declared.open.Open.TheVariants.{Paren, Index, OldIndex, Operator, Bracket, And, Or, Implies, Not, All, Then, Else, Do}
+use Rattle.parse.specs.declared.open.Open.TheVariants.{Paren, Index, OldIndex, Operator, Bracket, And, Or, Implies, Not, All, Braces}
 use Rattle.lang.specs.declared.syntax.ArithOp.{ArithOp}
 use Rattle.lang.specs.declared.syntax.ArithOp.TheVariants.{Add, Sub, Mul, Div, Rem}
 use Rattle.lang.specs.declared.token.Fixed.TheVariants as the
@@ -124,47 +124,45 @@ of_tier t (Or p) = None
 of_tier t (Implies p) = None
 of_tier t (Not p) = None
 of_tier t (All n) = None
-of_tier t (Then n) = None
-of_tier t (Else n) = None
-of_tier t (Do n) = None
+of_tier t (Braces k n) = None
 
 abbrev pub last_waiting : Bool → ℕ → List Open → Option (ArithOp × Place)
-last_waiting t base os = when (nat_lt base (length os)) (last_open os >>= of_tier t)
+last_waiting t base os = last_above base os >>= of_tier t
 
 abbrev pub completed : Bool → ℕ → Snap → Snap
 completed t base s = maybe (last_waiting t base s.pending) s λ w. emitted (instr.binary w.0) (closed s)
 
 -- An atom is to be read next.
-pub record AtOperand (text : List ℕ) (before s : Snap) : Type 0 where
+pub record AtOperand (before s : Snap) : Type 0 where
   pub level : Level
   pub nest : Nest
   pub pending : s.pending ≡ before.pending ++ (around nest ++ waiting level)
   pub code : s.code ≡ before.code ++ (nest_code nest ++ level_code level)
   pub rest : sum∞ before.ahead ≡ (do
     (e, us) ← atom∞ s.ahead
-    after_atom text level nest e us)
+    after_atom s.text level nest e us)
 
 -- An atom has been read.
-pub record BehindAtom (text : List ℕ) (before s : Snap) : Type 0 where
+pub record BehindAtom (before s : Snap) : Type 0 where
   pub level : Level
   pub nest : Nest
   pub value : Expr
   pub pending : s.pending ≡ before.pending ++ (around nest ++ waiting level)
   pub code : s.code ≡ before.code ++ ((nest_code nest ++ level_code level) ++ code_expr value [])
-  pub rest : sum∞ before.ahead ≡ after_atom text level nest value s.ahead
+  pub rest : sum∞ before.ahead ≡ after_atom s.text level nest value s.ahead
 
 -- A sum has been read.
-pub record BehindSum (text : List ℕ) (before s : Snap) : Type 0 where
+pub record BehindSum (before s : Snap) : Type 0 where
   pub nest : Nest
   pub value : Expr
   pub pending : s.pending ≡ before.pending ++ around nest
   pub code : s.code ≡ before.code ++ (nest_code nest ++ code_expr value [])
-  pub rest : sum∞ before.ahead ≡ after_sum text nest value s.ahead
+  pub rest : sum∞ before.ahead ≡ after_sum s.text nest value s.ahead
 
-abbrev pub InExpr : List ℕ → Snap → Snap → Step → Type 0
-InExpr text before s step.Operand = AtOperand text before s
-InExpr text before s step.Atom = BehindAtom text before s
-InExpr text before s step.Done = Read sum∞ (λ e. code_expr e []) before s
+abbrev pub InExpr : Snap → Snap → Option Step → Type 0
+InExpr before s (Some step.Operand) = AtOperand before s
+InExpr before s (Some step.Atom) = BehindAtom before s
+InExpr before s None = Read sum∞ (λ e. code_expr e []) before s
 
 -- Behind a name: its number is an atom, or the place in its row is read first.
 abbrev pub behind_name : Open → Instr → Snap → Snap
@@ -175,15 +173,14 @@ name_step s = cond (starts the.LeftBracket s.ahead) step.Operand step.Atom
 
 -- What one step does, from s to s': wherever the expression began, if the reader was inside it as Before says, it is so still, as the
 -- step says; or there is no expression.
-abbrev pub Steps : List ℕ → (Snap → Snap → Type 0) → Snap → Snap → Result Step NoText → Type 0
-Steps text Before s s' r = (before : Snap) → Before before s → MatchResult r (λ next. InExpr text before s' next) (λ _. sum∞ before.ahead ≡ None)
+abbrev pub Steps : (Snap → Snap → Type 0) → Snap → Snap → Result Step NoText → Type 0
+Steps Before s s' r = (before : Snap) → Before before s → MatchResult r (λ next. InExpr before s' (Some next)) (λ _. sum∞ before.ahead ≡ None)
 
 -- each step reads a token, but for the last
-abbrev pub more : Step → ℕ
-more step.Operand = 1
-more step.Atom = 1
-more step.Done = 0
+abbrev pub more : Option Step → ℕ
+more (Some next) = 1
+more None = 0
 
-pub record Used (s s' : Snap) (next : Step) : Type 0 where
+pub record Used (s s' : Snap) (next : Option Step) : Type 0 where
   pub paid : Paid s s'
   pub shorter : more next + 2 * length s'.ahead < 1 + 2 * length s.ahead

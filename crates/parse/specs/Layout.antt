@@ -2,6 +2,7 @@
 use Rattle.std.specs.Prelude.{ℕ, List, [], ◌∷◌, slice_index_or}
 use Rattle.lang.specs.declared.code.Place.{Place}
 use Rattle.lang.specs.declared.syntax.ArithOp.TheVariants.{Add, Sub, Mul, Div, Rem}
+use Rattle.parse.specs.declared.open.Kind.TheVariants.{Then, Else, Do}
 use Rattle.parse.specs.declared.open.Open.{Open}
 use Rattle.parse.specs.declared.open.Open.TheVariants as the
 
@@ -24,9 +25,9 @@ open_parts =
     (λ n. the.Implies (place n)) ∷
     (λ n. the.Not (place n)) ∷
     (λ n. the.All n) ∷
-    (λ n. the.Then n) ∷
-    (λ n. the.Else n) ∷
+    (λ n. the.Braces Then n) ∷
+    (λ n. the.Braces Else n) ∷
     []
 
 abbrev pub open_part : ℕ → ℕ → Open
-open_part a b = slice_index_or open_parts b (λ n. the.Do n) a
+open_part a b = slice_index_or open_parts b (λ n. the.Braces Do n) a

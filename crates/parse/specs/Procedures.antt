@@ -10,7 +10,7 @@ use Rattle.lang.specs.Tokens.{Token}
 use Rattle.lang.specs.declared.token.Fixed.TheVariants as the
 use Rattle.parse.specs.Parts.{part_code, measure_code}
 use Rattle.parse.specs.Unbounded.{parameters∞, condition∞, measured∞, local_variables∞, block∞}
-use Rattle.parse.specs.declared.parts.Part.TheVariants.{Pre, Post}
+use Rattle.parse.specs.declared.parts.Header.TheVariants.{Pre, Post}
 
 pub record Signature : Type 0 where
   pub name : Word

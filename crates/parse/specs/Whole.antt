@@ -20,6 +20,7 @@ pub record AtProcedure (before s : Snap) : Type 0 where
   pub read : List Proc
   pub code : s.code ≡ before.code ++ codes code_proc read
   pub pending : s.pending ≡ before.pending
+  pub text : s.text ≡ before.text
   pub rest : procedures∞ before.ahead ≡ (procedures∞ s.ahead >>= λ qs. Some (read ++ qs))
 
 -- All procedures have been read.
@@ -27,6 +28,7 @@ pub record AllRead (before after : Snap) : Type 0 where
   pub procs : List Proc
   pub parsed : procedures∞ before.ahead ≡ Some procs
   pub code : after.code ≡ before.code ++ code_procs procs []
+  pub text : after.text ≡ before.text
 
 -- The width, and all procedures.
 unfoldable pub program∞ : List Token → Option syntax.Program
@@ -42,6 +44,7 @@ pub record WholeRead (before after : Snap) (w : ℕ) : Type 0 where
   pub procs : List Proc
   pub parsed : program∞ before.ahead ≡ Some (record { width = w; procs = procs })
   pub code : after.code ≡ before.code ++ code_procs procs []
+  pub text : after.text ≡ before.text
 
 -- The program is the one that the text reads as.
 pub record ReadsAs (bytes : List ℕ) (held : Program) : Type 0 where

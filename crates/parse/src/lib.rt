@@ -15,7 +15,8 @@ ghost use Rattle.parse.specs.Whole.{ReadsAs, Refused};
 use lang::code::Node;
 use lang::program::Program;
 use lang::scan::scan;
-use lent::{Parts, Table, split};
+use lang::width::Width;
+use lent::{Table, split};
 
 mod declarations;
 mod expression;
@@ -32,15 +33,18 @@ mod statements;
 use open::Open;
 use reader::Reader;
 use refusal::NoText;
+use thiserror::Error;
 
 // Why no program was read.
-#[derive(Clone, Copy)]
+#[derive(Clone, Copy, Debug, PartialEq, Eq, Error)]
 pub enum ReadError {
+    #[error(transparent)]
     NoText(NoText),
-    // too few words were lent
+    #[error("too few words were lent")]
     Few,
 }
 
+// By hand, since what `read` promises rests on what these give.
 impl From<NoText> for ReadError {
     ghost from_gives = { λ e r. r ≡ NoText e };
 
@@ -58,24 +62,25 @@ impl From<lent::Few> for ReadError {
 }
 
 // The program that the text reads as, in the words of the table `code`.
-fn read_into<'s, 'a>(
+fn read_into<'a>(
     text: &'a [u8],
-    code: &'s mut Table<'a, Node>,
-    pending: &'s mut Table<'a, Open>,
+    code: Table<'a, Node>,
+    pending: Table<'a, Open>,
 ) -> Result<Program<'a>, NoText>
-    requires empty { (items node code.old ≡ []) × (items open_part pending.old ≡ []) }
-    requires room { (2 * length text.now ≤ capacity code.old) × (length text.now ≤ capacity pending.old) }
+    requires empty { (items node code ≡ []) × (items open_part pending ≡ []) }
+    requires room { (2 * length text.now ≤ capacity code) × (length text.now ≤ capacity pending) }
     ensures { MatchResult result (λ p. ReadsAs text.now p) (λ _. reads text.now ≡ None) }
 {
     let mut reader = Reader {
+        text,
         cursor: scan(text, 0),
         code,
         pending,
     };
-    let width = reader.program(text)?;
+    let width = reader.program()?;
     Ok(Program {
         text,
-        width,
+        width: Width(width),
         code: reader.code.freeze(),
     })
 }
@@ -88,8 +93,6 @@ pub fn read<'a>(text: &'a [u8], words: &'a mut [u64]) -> Result<Program<'a>, Rea
     if n > words.len() / 6 {
         return Err(ReadError::Few);
     }
-    let Parts { front, back } = split(words, 4 * n)?;
-    let mut code = Table::new(front);
-    let mut pending = Table::new(back);
-    Ok(read_into(text, &mut code, &mut pending)?)
+    let (front, back) = split(words, 4 * n)?;
+    Ok(read_into(text, Table::new(front), Table::new(back))?)
 }

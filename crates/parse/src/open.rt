@@ -6,6 +6,14 @@ use lang::code::Place;
 use lang::syntax::ArithOp;
 use lent::Record;
 
+// A block inside a statement.
+#[derive(Clone, Copy)]
+pub enum Kind {
+    Then,
+    Else,
+    Do,
+}
+
 #[derive(Clone, Copy)]
 pub enum Open {
     // (e
@@ -24,13 +32,11 @@ pub enum Open {
     Not(Place),
     // all x < n { b: the index of the node that is to have b's length
     All(usize),
-    // if b { ..: likewise for the block
-    Then(usize),
-    Else(usize),
-    // while b keep b; less e; { ..
-    Do(usize),
+    // if b { .., else { .. and while b keep b; less e; { ..: likewise for the block
+    Braces(Kind, usize),
 }
 
+// By hand: what is open lies in lent words, two for each.
 impl Record for Open {
     ghost decoded = { open_part };
 
@@ -50,9 +56,9 @@ impl Record for Open {
             Open::Implies(Place(p)) => (p as u64, 11),
             Open::Not(Place(p)) => (p as u64, 12),
             Open::All(n) => (n as u64, 13),
-            Open::Then(n) => (n as u64, 14),
-            Open::Else(n) => (n as u64, 15),
-            Open::Do(n) => (n as u64, 16),
+            Open::Braces(Kind::Then, n) => (n as u64, 14),
+            Open::Braces(Kind::Else, n) => (n as u64, 15),
+            Open::Braces(Kind::Do, n) => (n as u64, 16),
         }
     }
 
@@ -74,9 +80,9 @@ impl Record for Open {
             11 => Open::Implies(p),
             12 => Open::Not(p),
             13 => Open::All(n),
-            14 => Open::Then(n),
-            15 => Open::Else(n),
-            _ => Open::Do(n),
+            14 => Open::Braces(Kind::Then, n),
+            15 => Open::Braces(Kind::Else, n),
+            _ => Open::Braces(Kind::Do, n),
         }
     }
 }

@@ -4,7 +4,7 @@ ghost use Rattle.lang.specs.Code.{code_stmt};
 ghost use Rattle.lang.specs.Grammar.{starts, expect};
 ghost use Rattle.lang.specs.Instr.{instr, name_at};
 ghost use Rattle.lang.specs.declared.token.Fixed.TheVariants as the;
-ghost use Rattle.parse.specs.Reading.{snap, advanced, emitted, Room, Read, Paid};
+ghost use Rattle.parse.specs.Reading.{snap, Reads, advanced, emitted, Room, Paid};
 ghost use Rattle.parse.specs.Unbounded.{named_statement∞, statement∞};
 
 use crate::reader::Reader;
@@ -12,101 +12,100 @@ use crate::refusal::NoText;
 use lang::code::{Node, Place};
 use lang::token::Fixed;
 
-impl<'s, 'a> Reader<'s, 'a> {
+impl Reader<'_> {
     // Writes a statement's last node, and goes past its semicolon.
-    fn finish_statement(&mut self, text: &[u8], node: Node) -> Result<(), NoText>
-        requires { length (snap text.now self.old).code < (snap text.now self.old).code_room }
-        ensures { MatchResult result (λ _. (expect the.Semicolon (snap text.now self.old).ahead ≡ Some (snap text.now self.new).ahead) × (snap text.now self.new ≡ advanced (emitted (instr text.now node) (snap text.now self.old)))) (λ _. expect the.Semicolon (snap text.now self.old).ahead ≡ None) }
+    fn finish_statement(&mut self, node: Node) -> Result<(), NoText>
+        requires { length (snap self.old).code < (snap self.old).code_room }
+        ensures { MatchResult result (λ _. (expect the.Semicolon (snap self.old).ahead ≡ Some (snap self.new).ahead) × (snap self.new ≡ advanced (emitted (instr self.old.text.now node) (snap self.old)))) (λ _. expect the.Semicolon (snap self.old).ahead ≡ None) }
     {
-        self.emit(text, node);
-        self.expect(text, Fixed::Semicolon)?;
-        Ok(())
+        self.emit(node);
+        self.expect(Fixed::Semicolon)
     }
 
     // x = e;
-    fn assignment(&mut self, text: &[u8], name: Place) -> Result<(), NoText>
-        requires room { Room (snap text.now self.old) }
-        requires not_call { starts the.LeftParen (snap text.now self.old).ahead ≡ false }
-        requires not_store { starts the.LeftBracket (snap text.now self.old).ahead ≡ false }
-        ensures reads { MatchResult result (λ _. Read (named_statement∞ (name_at text.now name.0)) (λ s. code_stmt s []) (snap text.now self.old) (snap text.now self.new)) (λ _. named_statement∞ (name_at text.now name.0) (snap text.now self.old).ahead ≡ None) }
-        ensures paid { OnOk result (Paid (snap text.now self.old) (snap text.now self.new)) }
+    fn assignment(&mut self, name: Place) -> Result<(), NoText>
+        requires room { Room (snap self.old) }
+        requires not_call { starts the.LeftParen (snap self.old).ahead ≡ false }
+        requires not_store { starts the.LeftBracket (snap self.old).ahead ≡ false }
+        ensures reads { Reads (named_statement∞ (name_at self.old.text.now name.0)) (λ s. code_stmt s []) (snap self.old) (snap self.new) result }
+        ensures paid { OnOk result (Paid (snap self.old) (snap self.new)) }
     {
-        self.expect(text, Fixed::Gets)?;
-        self.expression(text)?;
-        self.finish_statement(text, Node::Assign(name))?;
+        self.expect(Fixed::Gets)?;
+        self.expression()?;
+        self.finish_statement(Node::Assign(name))?;
         Ok(())
     }
 
     // x[e] = e;
-    fn store(&mut self, text: &[u8], name: Place) -> Result<(), NoText>
-        requires room { Room (snap text.now self.old) }
-        requires not_call { starts the.LeftParen (snap text.now self.old).ahead ≡ false }
-        requires store { starts the.LeftBracket (snap text.now self.old).ahead ≡ true }
-        ensures reads { MatchResult result (λ _. Read (named_statement∞ (name_at text.now name.0)) (λ s. code_stmt s []) (snap text.now self.old) (snap text.now self.new)) (λ _. named_statement∞ (name_at text.now name.0) (snap text.now self.old).ahead ≡ None) }
-        ensures paid { OnOk result (Paid (snap text.now self.old) (snap text.now self.new)) }
+    fn store(&mut self, name: Place) -> Result<(), NoText>
+        requires room { Room (snap self.old) }
+        requires not_call { starts the.LeftParen (snap self.old).ahead ≡ false }
+        requires store { starts the.LeftBracket (snap self.old).ahead ≡ true }
+        ensures reads { Reads (named_statement∞ (name_at self.old.text.now name.0)) (λ s. code_stmt s []) (snap self.old) (snap self.new) result }
+        ensures paid { OnOk result (Paid (snap self.old) (snap self.new)) }
     {
-        self.advance(text);
-        self.expression(text)?;
-        self.expect(text, Fixed::RightBracket)?;
-        self.expect(text, Fixed::Gets)?;
-        self.expression(text)?;
-        self.finish_statement(text, Node::Store(name))?;
+        self.advance();
+        self.expression()?;
+        self.expect(Fixed::RightBracket)?;
+        self.expect(Fixed::Gets)?;
+        self.expression()?;
+        self.finish_statement(Node::Store(name))?;
         Ok(())
     }
 
     // f(x, ..);
-    fn call(&mut self, text: &[u8], name: Place) -> Result<(), NoText>
-        requires room { Room (snap text.now self.old) }
-        requires call { starts the.LeftParen (snap text.now self.old).ahead ≡ true }
-        ensures reads { MatchResult result (λ _. Read (named_statement∞ (name_at text.now name.0)) (λ s. code_stmt s []) (snap text.now self.old) (snap text.now self.new)) (λ _. named_statement∞ (name_at text.now name.0) (snap text.now self.old).ahead ≡ None) }
-        ensures paid { OnOk result (Paid (snap text.now self.old) (snap text.now self.new)) }
+    fn call(&mut self, name: Place) -> Result<(), NoText>
+        requires room { Room (snap self.old) }
+        requires call { starts the.LeftParen (snap self.old).ahead ≡ true }
+        ensures reads { Reads (named_statement∞ (name_at self.old.text.now name.0)) (λ s. code_stmt s []) (snap self.old) (snap self.new) result }
+        ensures paid { OnOk result (Paid (snap self.old) (snap self.new)) }
     {
-        self.emit(text, Node::Call(name));
-        self.advance(text);
-        self.arguments(text)?;
-        self.finish_statement(text, Node::EndCall)?;
+        self.emit(Node::Call(name));
+        self.advance();
+        self.arguments()?;
+        self.finish_statement(Node::EndCall)?;
         Ok(())
     }
 
     // Behind a name that begins a statement.
-    pub fn named_statement(&mut self, text: &[u8], name: Place) -> Result<(), NoText>
-        requires { Room (snap text.now self.old) }
-        ensures reads { MatchResult result (λ _. Read (named_statement∞ (name_at text.now name.0)) (λ s. code_stmt s []) (snap text.now self.old) (snap text.now self.new)) (λ _. named_statement∞ (name_at text.now name.0) (snap text.now self.old).ahead ≡ None) }
-        ensures paid { OnOk result (Paid (snap text.now self.old) (snap text.now self.new)) }
+    pub fn named_statement(&mut self, name: Place) -> Result<(), NoText>
+        requires { Room (snap self.old) }
+        ensures reads { Reads (named_statement∞ (name_at self.old.text.now name.0)) (λ s. code_stmt s []) (snap self.old) (snap self.new) result }
+        ensures paid { OnOk result (Paid (snap self.old) (snap self.new)) }
     {
-        if self.at(text, Fixed::LeftParen) {
-            self.call(text, name)
-        } else if self.at(text, Fixed::LeftBracket) {
-            self.store(text, name)
+        if self.at(Fixed::LeftParen) {
+            self.call(name)
+        } else if self.at(Fixed::LeftBracket) {
+            self.store(name)
         } else {
-            self.assignment(text, name)
+            self.assignment(name)
         }
     }
 
     // check b;
-    pub fn check(&mut self, text: &[u8]) -> Result<(), NoText>
-        requires room { Room (snap text.now self.old) }
-        requires check { starts the.Check (snap text.now self.old).ahead ≡ true }
-        ensures reads { MatchResult result (λ _. Read statement∞ (λ s. code_stmt s []) (snap text.now self.old) (snap text.now self.new)) (λ _. statement∞ (snap text.now self.old).ahead ≡ None) }
-        ensures paid { OnOk result (Paid (snap text.now self.old) (snap text.now self.new)) }
+    pub fn check(&mut self) -> Result<(), NoText>
+        requires room { Room (snap self.old) }
+        requires check { starts the.Check (snap self.old).ahead ≡ true }
+        ensures reads { Reads statement∞ (λ s. code_stmt s []) (snap self.old) (snap self.new) result }
+        ensures paid { OnOk result (Paid (snap self.old) (snap self.new)) }
     {
         let place = Place(self.cursor.start);
-        self.advance(text);
-        self.formula(text)?;
-        self.finish_statement(text, Node::Check(place))?;
+        self.advance();
+        self.formula()?;
+        self.finish_statement(Node::Check(place))?;
         Ok(())
     }
 
     // any x;
-    pub fn havoc(&mut self, text: &[u8]) -> Result<(), NoText>
-        requires room { Room (snap text.now self.old) }
-        requires any { starts the.Any (snap text.now self.old).ahead ≡ true }
-        ensures reads { MatchResult result (λ _. Read statement∞ (λ s. code_stmt s []) (snap text.now self.old) (snap text.now self.new)) (λ _. statement∞ (snap text.now self.old).ahead ≡ None) }
-        ensures paid { OnOk result (Paid (snap text.now self.old) (snap text.now self.new)) }
+    pub fn havoc(&mut self) -> Result<(), NoText>
+        requires room { Room (snap self.old) }
+        requires any { starts the.Any (snap self.old).ahead ≡ true }
+        ensures reads { Reads statement∞ (λ s. code_stmt s []) (snap self.old) (snap self.new) result }
+        ensures paid { OnOk result (Paid (snap self.old) (snap self.new)) }
     {
-        self.advance(text);
-        let name = self.name(text)?;
-        self.finish_statement(text, Node::Havoc(name))?;
+        self.advance();
+        let name = self.name()?;
+        self.finish_statement(Node::Havoc(name))?;
         Ok(())
     }
 }

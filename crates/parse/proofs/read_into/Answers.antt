@@ -1,7 +1,9 @@
 use Rattle.std.proofs.Common.{[], ◌++◌, map, sym, refl, ap, ◌∙◌}
 use Rattle.std.proofs.lemmas.Result.{err_from_is_err_and}
+use Rattle.lent.specs.Tables.{items}
 use Rattle.lang.specs.Code.{code_procs}
 use Rattle.lang.specs.Instr.{instr}
+use Rattle.lang.specs.Layout.{node}
 use Rattle.parse.specs.Whole.{program∞}
 use Rattle.parse.proofs.Wholes.{reads_is, room_for}
 use Rattle.parse.proofs.read_into.Goals as goal
@@ -25,6 +27,6 @@ returns c =
       text = refl;
       holds = record {
         width = refl;
-        code = ap (map (instr text)) c.freeze.ensures.value ∙ h.code ∙ ap (λ k. map (instr text) k ++ code_procs h.procs []) c.requires.empty.0;
+        code = ap (map (instr text)) c.freeze.ensures.value ∙ (λ i. map (instr (sym h.text i)) (items node c.program.new.self.code)) ∙ h.code ∙ ap (λ k. map (instr text) k ++ code_procs h.procs []) c.requires.empty.0;
       };
     }

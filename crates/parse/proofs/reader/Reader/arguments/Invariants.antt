@@ -5,8 +5,8 @@ use Rattle.parse.specs.Reading.{snap, Paid}
 use Rattle.parse.specs.Unbounded.{names∞}
 use Rattle.parse.proofs.reader.Reader.arguments.Given as goal
 
-abbrev pub invariant-names : goal.invariant-names
-invariant-names l = AtItem names∞ (λ x k. instr.arg x ∷ k) (snap l.text l.initial.self) (snap l.text l.self) × Paid (snap l.text l.initial.self) (snap l.text l.self)
+abbrev pub invariant-loop-place : goal.invariant-loop-place
+invariant-loop-place l = AtItem names∞ (λ x k. instr.arg x ∷ k) (snap l.initial.self) (snap l.self) × Paid (snap l.initial.self) (snap l.self)
 
-abbrev pub decreases-names : goal.decreases-names
-decreases-names l = length (snap l.text l.self).ahead
+abbrev pub decreases-loop-place : goal.decreases-loop-place
+decreases-loop-place l = length (snap l.self).ahead

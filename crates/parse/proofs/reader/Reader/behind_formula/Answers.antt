@@ -13,7 +13,7 @@ use Rattle.parse.proofs.reader.Reader.behind_formula.Goals as goal
 
 pub returns-then-height-base : goal.returns-then-height-base
 returns-then-height-base c =
-    let s = snap c.args.text.now c.args.self.now in
+    let s = snap c.args.self.now in
     record {
       reads = λ before b h. whole before s h (omega (arith, c.height.ensures, c.if-height-base.true, b));
       used = done_used s;
@@ -21,7 +21,7 @@ returns-then-height-base c =
 
 pub returns-in_default : goal.returns-in_default
 returns-in_default c =
-    let s = snap c.args.text.now c.args.self.now in
+    let s = snap c.args.self.now in
     let none = c.in_default.ensures.value in
     record {
       reads = λ before b h. leaves_nothing before s h (omega (arith, c.height.ensures, c.if-height-base.false, b))
@@ -33,8 +33,7 @@ returns-in_default c =
 
 pub returns-in-Implies : goal.returns-in-Implies
 returns-in-Implies c =
-    let text = c.args.text.now in
-    let s = snap text c.args.self.now in
+    let s = snap c.args.self.now in
     let told = c.in-Some.ensures in
     let p = c.in-Implies.place in
     let last = ap Some (sym c.in-Implies.is) ∙ told.value in
@@ -42,13 +41,13 @@ returns-in-Implies c =
     let some : 0 < length s.pending = omega (arith, c.height.ensures, c.if-height-base.false) in
     record {
       reads = λ before b h. subst (BehindFormula before) (sym after) (leaves_implication before s p h (omega (arith, c.height.ensures, c.if-height-base.false, b)) last);
-      used = subst (λ t. Used turn.Whole s t turn.Whole) (sym after) (implication_used s some);
+      used = subst (λ t. Used turn.Whole s t (Some turn.Whole)) (sym after) (implication_used s some);
     }
 
 pub returns-in_err-expect-in-Bracket : goal.returns-in_err-expect-in-Bracket
 returns-in_err-expect-in-Bracket c =
     let p = err_from_is_err_and c.from_residual.result c.from_residual.ensures.1 in
-    let s = snap c.args.text.now c.args.self.now in
+    let s = snap c.args.self.now in
     let told = c.in-Some.ensures in
     let last = ap Some (sym c.in-Bracket.is) ∙ told.value in
     let none : expect RightBracket s.ahead ≡ None = ap (λ t. expect RightBracket t.ahead) (sym told.after) ∙ c.in_err-expect-in-Bracket.ensures in
@@ -57,7 +56,7 @@ returns-in_err-expect-in-Bracket c =
 pub returns-in_err-end_all-in-All : goal.returns-in_err-end_all-in-All
 returns-in_err-end_all-in-All c =
     let p = err_from_is_err_and c.from_residual-in_err-end_all-in-All.result c.from_residual-in_err-end_all-in-All.ensures.1 in
-    let s = snap c.args.text.now c.args.self.now in
+    let s = snap c.args.self.now in
     let told = c.in-Some.ensures in
     let last = ap Some (sym c.in-All.is) ∙ told.value in
     let none : expect RightBrace s.ahead ≡ None = ap (λ t. expect RightBrace t.ahead) (sym told.after) ∙ c.in_err-end_all-in-All.ensures in
@@ -65,7 +64,7 @@ returns-in_err-end_all-in-All c =
 
 pub returns-in_default-part : goal.returns-in_default-part
 returns-in_default-part c =
-    let s = snap c.args.text.now c.args.self.now in
+    let s = snap c.args.self.now in
     let told = c.in-Some.ensures.value in
     record {
       reads = λ before b h. leaves_nothing before s h (omega (arith, c.height.ensures, c.if-height-base.false, b))
@@ -77,29 +76,27 @@ returns-in_default-part c =
 
 pub returns-in_ok-expect-in-Bracket : goal.returns-in_ok-expect-in-Bracket
 returns-in_ok-expect-in-Bracket c =
-    let text = c.args.text.now in
-    let s = snap text c.args.self.now in
+    let s = snap c.args.self.now in
     let told = c.in-Some.ensures in
     let last = ap Some (sym c.in-Bracket.is) ∙ told.value in
-    let after : snap text c.expect.new.self ≡ advanced (closed s) = c.in_ok-expect-in-Bracket.ensures.1 ∙ ap advanced told.after in
+    let after : snap c.expect.new.self ≡ advanced (closed s) = c.in_ok-expect-in-Bracket.ensures.1 ∙ ap advanced told.after in
     let found : expect RightBracket s.ahead ≡ Some (onward s.ahead) = ap (λ t. expect RightBracket t.ahead) (sym told.after) ∙ c.in_ok-expect-in-Bracket.ensures.0 ∙ ap (λ t. Some t.ahead) after in
     let fewer : length (onward s.ahead) < length s.ahead = omega (arith, expect_long RightBracket s.ahead (onward s.ahead) found) in
     record {
       reads = λ before b h. subst (BehindUnit before) (sym after) (leaves_brackets before s h (omega (arith, c.height.ensures, c.if-height-base.false, b)) last found);
-      used = subst (λ t. Used turn.Whole s t turn.Behind) (sym after) (brackets_used s fewer);
+      used = subst (λ t. Used turn.Whole s t (Some turn.Behind)) (sym after) (brackets_used s fewer);
     }
 
 pub returns-in_ok-end_all-in-All : goal.returns-in_ok-end_all-in-All
 returns-in_ok-end_all-in-All c =
-    let text = c.args.text.now in
-    let s = snap text c.args.self.now in
+    let s = snap c.args.self.now in
     let n = c.in-All.at in
     let told = c.in-Some.ensures in
     let last = ap Some (sym c.in-All.is) ∙ told.value in
-    let after : snap text c.end_all.new.self ≡ all_ended n (advanced (closed s)) = c.in_ok-end_all-in-All.ensures.1 ∙ ap (λ t. all_ended n (advanced t)) told.after in
+    let after : snap c.end_all.new.self ≡ all_ended n (advanced (closed s)) = c.in_ok-end_all-in-All.ensures.1 ∙ ap (λ t. all_ended n (advanced t)) told.after in
     let found : expect RightBrace s.ahead ≡ Some (onward s.ahead) = ap (λ t. expect RightBrace t.ahead) (sym told.after) ∙ c.in_ok-end_all-in-All.ensures.0 ∙ ap (λ t. Some t.ahead) after in
     let fewer : length (onward s.ahead) < length s.ahead = omega (arith, expect_long RightBrace s.ahead (onward s.ahead) found) in
     record {
       reads = λ before b h. subst (BehindUnit before) (sym after) (leaves_all before s n h (omega (arith, c.height.ensures, c.if-height-base.false, b)) last found);
-      used = subst (λ t. Used turn.Whole s t turn.Behind) (sym after) (end_used n s fewer);
+      used = subst (λ t. Used turn.Whole s t (Some turn.Behind)) (sym after) (end_used n s fewer);
     }

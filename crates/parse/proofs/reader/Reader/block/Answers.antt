@@ -6,32 +6,30 @@ use Rattle.parse.proofs.InBlock.{begun}
 use Rattle.parse.proofs.Rooms.{paid_none, paid_then}
 use Rattle.parse.proofs.reader.Reader.block.Goals as goal
 
-pub statements-init : goal.statements-init
-statements-init c = (begun _, paid_none _, c.height-base.ensures)
+pub loop-self-init : goal.loop-self-init
+loop-self-init c = (begun _, paid_none _, c.height-base.ensures)
 
-pub returns-in_err-statement : goal.returns-in_err-statement
-returns-in_err-statement c =
+pub returns-in_err-statement-clause-reads : goal.returns-in_err-statement-clause-reads
+returns-in_err-statement-clause-reads c =
     let p = err_from_is_err_and c.from_residual.result c.from_residual.ensures.1 in
-    rw p.1 (record { reads = c.in_err-statement.ensures.reads _ (sym c.if-not-at.ensures) c.statements.invariant.0; paid = tt })
+    rw p.1 (c.in_err-statement.ensures.reads _ (sym c.if-not-at.ensures) c.loop-self.invariant.0)
 
-pub statements-preserved-then-not-at : goal.statements-preserved-then-not-at
-statements-preserved-then-not-at c =
+pub loop-self-preserved-then-not-at : goal.loop-self-preserved-then-not-at
+loop-self-preserved-then-not-at c =
     let told = c.in_ok-statement.ensures in
-    (told.reads _ (sym c.if-not-at.ensures) c.statements.invariant.0, paid_then _ _ _ c.statements.invariant.1 told.paid, c.statements.invariant.2)
+    (told.reads _ (sym c.if-not-at.ensures) c.loop-self.invariant.0, paid_then _ _ _ c.loop-self.invariant.1 told.paid, c.loop-self.invariant.2)
 
-pub returns-in_err-close : goal.returns-in_err-close
-returns-in_err-close c =
+pub returns-in_err-close-clause-reads : goal.returns-in_err-close-clause-reads
+returns-in_err-close-clause-reads c =
     let p = err_from_is_err_and c.from_residual-in_err-close.result c.from_residual-in_err-close.ensures.1 in
-    rw p.1 (record { reads = c.in_err-close.ensures.reads _ c.statements.invariant.2 c.statements.invariant.0; paid = tt })
+    rw p.1 (c.in_err-close.ensures.reads _ c.loop-self.invariant.2 c.loop-self.invariant.0)
 
-pub returns-then-branch : goal.returns-then-branch
-returns-then-branch c =
-    let text = c.args.text.now in
+pub returns-then-branch-clause-reads : goal.returns-then-branch-clause-reads
+returns-then-branch-clause-reads c =
     let told = c.in_ok-close.ensures in
-    record { reads = subst (Closed (snap text c.args.self.now) (snap text c.close.new.self)) c.if-branch.true (told.reads _ c.statements.invariant.2 c.statements.invariant.0); paid = paid_then _ _ _ c.statements.invariant.1 told.paid }
+    subst (Closed (snap c.args.self.now) (snap c.close.new.self)) c.if-branch.true (told.reads _ c.loop-self.invariant.2 c.loop-self.invariant.0)
 
-pub statements-preserved : goal.statements-preserved
-statements-preserved c =
-    let text = c.args.text.now in
+pub loop-self-preserved : goal.loop-self-preserved
+loop-self-preserved c =
     let told = c.in_ok-close.ensures in
-    (subst (Closed (snap text c.args.self.now) (snap text c.close.new.self)) c.if-branch.false (told.reads _ c.statements.invariant.2 c.statements.invariant.0), paid_then _ _ _ c.statements.invariant.1 told.paid, c.statements.invariant.2)
+    (subst (Closed (snap c.args.self.now) (snap c.close.new.self)) c.if-branch.false (told.reads _ c.loop-self.invariant.2 c.loop-self.invariant.0), paid_then _ _ _ c.loop-self.invariant.1 told.paid, c.loop-self.invariant.2)

@@ -10,9 +10,8 @@ use Rattle.parse.proofs.reader.Reader.close.Goals as goal
 
 pub returns-then-height-base : goal.returns-then-height-base
 returns-then-height-base c =
-    let text = c.args.text.now in
-    let s = snap text c.args.self.now in
-    let t = snap text c.advance.new.self in
+    let s = snap c.args.self.now in
+    let t = snap c.advance.new.self in
     record {
       reads = λ before b h.
           let low : length t.pending ≤ length before.pending = omega (arith, c.height.ensures, c.if-height-base.true, b) in
@@ -24,9 +23,8 @@ returns-then-height-base c =
 pub returns-in_err-end_block : goal.returns-in_err-end_block
 returns-in_err-end_block c =
     let p = err_from_is_err_and c.from_residual.result c.from_residual.ensures.1 in
-    let text = c.args.text.now in
-    let s = snap text c.args.self.now in
-    let t = snap text c.advance.new.self in
+    let s = snap c.args.self.now in
+    let t = snap c.advance.new.self in
     rw p.1 (record {
       reads = λ before b h.
           let high : length before.pending < length t.pending = omega (arith, c.height.ensures, c.if-height-base.false, b) in
@@ -37,10 +35,9 @@ returns-in_err-end_block c =
 
 pub returns : goal.returns
 returns c =
-    let text = c.args.text.now in
-    let s = snap text c.args.self.now in
-    let t = snap text c.advance.new.self in
-    let u = snap text c.end_block.new.self in
+    let s = snap c.args.self.now in
+    let t = snap c.advance.new.self in
+    let u = snap c.end_block.new.self in
     let told = c.in_ok-end_block.ensures in
     record {
       reads = λ before b h.

@@ -5,8 +5,8 @@ use Rattle.parse.specs.Reading.{snap, Paid}
 use Rattle.parse.specs.Unbounded.{declarations∞}
 use Rattle.parse.proofs.reader.Reader.declarations.Given as goal
 
-abbrev pub invariant-items : goal.invariant-items
-invariant-items l = AtItem (declarations∞ l.end) (role_code l.role) (snap l.text l.initial.self) (snap l.text l.self) × Paid (snap l.text l.initial.self) (snap l.text l.self)
+abbrev pub invariant-loop-self : goal.invariant-loop-self
+invariant-loop-self l = AtItem (declarations∞ l.end) (role_code l.role) (snap l.initial.self) (snap l.self) × Paid (snap l.initial.self) (snap l.self)
 
-abbrev pub decreases-items : goal.decreases-items
-decreases-items l = length (snap l.text l.self).ahead
+abbrev pub decreases-loop-self : goal.decreases-loop-self
+decreases-loop-self l = length (snap l.self).ahead

@@ -3,8 +3,8 @@ use Rattle.parse.specs.InBool.{InBool, left}
 use Rattle.parse.specs.Reading.{snap, Paid}
 use Rattle.parse.proofs.reader.Reader.formula.Given as goal
 
-abbrev pub invariant-turns : goal.invariant-turns
-invariant-turns l = InBool (snap l.text l.initial.self) (snap l.text l.self) l.next × Paid (snap l.text l.initial.self) (snap l.text l.self) × (l.base ≡ length (snap l.text l.initial.self).pending)
+abbrev pub invariant-loop-next : goal.invariant-loop-next
+invariant-loop-next l = InBool (snap l.initial.self) (snap l.self) l.next × Paid (snap l.initial.self) (snap l.self) × (l.base ≡ length (snap l.initial.self).pending)
 
-abbrev pub decreases-turns : goal.decreases-turns
-decreases-turns l = left l.next (snap l.text l.self)
+abbrev pub decreases-loop-next : goal.decreases-loop-next
+decreases-loop-next l = left l.next (snap l.self)

@@ -1,26 +1,11 @@
-use Rattle.std.proofs.Common.{◌≡◌, ◌+◌, ◌-◌, [], length, sym, ap, ◌∙◌, subst, arith}
-use Rattle.std.proofs.lemmas.List.{length_push}
+use Rattle.std.proofs.Common.{[]}
 use Rattle.lang.specs.Code.{code_expr}
-use Rattle.lang.specs.Instr.{measure}
-use Rattle.parse.specs.Reading.{snap, Read, Paid, emitted, patched}
 use Rattle.parse.specs.Unbounded.{sum∞}
-use Rattle.parse.proofs.Headed.{headed, paid_patched}
+use Rattle.parse.specs.declared.parts.Header.TheVariants.{Measure}
+use Rattle.parse.proofs.Headed.{headed}
 use Rattle.parse.proofs.reader.Reader.measure.Goals as goal
 
-pub emit-requires : goal.emit-requires
-emit-requires c = omega (arith, length_push (snap c.args.text.now c.args.self.now).code (measure 0), c.requires.code)
-
-pub returns : goal.returns
-returns c =
-    let text = c.args.text.now in
-    let s = snap text c.args.self.now in
-    let t = snap text c.expression.new.self in
-    let told = c.in_ok-expression.ensures in
-    let begun : snap text c.emit.new.self ≡ emitted (measure 0) s = c.emit.ensures in
-    let long = c.behind-behind.ensures ∙ ap (λ n. length t.code - (n + 1)) c.written-at.ensures in
-    let header = ap (measure) long in
-    let after : snap text c.patch.new.self ≡ patched (length s.code) (measure (length t.code - (length s.code + 1))) t = c.patch.ensures ∙ (λ j. patched (c.written-at.ensures j) (header j) t) in
-    record {
-      reads = subst (Read sum∞ _ s) (sym after) (headed sum∞ (λ x. code_expr x []) (measure) s t (subst (λ r. Read sum∞ (λ x. code_expr x []) r t) begun told.reads));
-      paid = subst (Paid (emitted (measure 0) s)) (sym after) (paid_patched _ t _ _ (subst (λ r. Paid r t) begun told.paid));
-    }
+pub returns-clause-reads : goal.returns-clause-reads
+returns-clause-reads c =
+    let began = c.head-at.ensures in
+    headed Measure _ _ _ _ _ began.index began.after c.seal.ensures sum∞ (λ x. code_expr x []) c.in_ok-expression.ensures.reads

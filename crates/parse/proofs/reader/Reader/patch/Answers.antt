@@ -8,5 +8,5 @@ use Rattle.parse.proofs.reader.Reader.patch.Goals as goal
 
 pub returns : goal.returns
 returns c =
-    let view = instr c.args.text.now in
-    same_snap _ _ (ap (map view) c.set.ensures.items ∙ map-set view (items node c.args.self.now.code.now) c.args.at c.args.node) refl refl c.set.ensures.capacity refl
+    let view = instr c.args.self.now.text.now in
+    same_snap _ _ refl (ap (map view) c.set.ensures.items ∙ map-set view (items node c.args.self.now.code) c.args.at c.args.node) refl refl c.set.ensures.capacity refl

@@ -3,8 +3,8 @@ use Rattle.parse.specs.Reading.{snap, Room}
 use Rattle.parse.specs.Whole.{AtProcedure}
 use Rattle.parse.proofs.reader.Reader.procedures.Given as goal
 
-abbrev pub invariant-procs : goal.invariant-procs
-invariant-procs l = AtProcedure (snap l.text l.initial.self) (snap l.text l.self) × Room (snap l.text l.self)
+abbrev pub invariant-loop-self : goal.invariant-loop-self
+invariant-loop-self l = AtProcedure (snap l.initial.self) (snap l.self) × Room (snap l.self)
 
-abbrev pub decreases-procs : goal.decreases-procs
-decreases-procs l = length (snap l.text l.self).ahead
+abbrev pub decreases-loop-self : goal.decreases-loop-self
+decreases-loop-self l = length (snap l.self).ahead

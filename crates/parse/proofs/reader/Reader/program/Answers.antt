@@ -1,5 +1,6 @@
-use Rattle.std.proofs.Common.{sym, subst}
+use Rattle.std.proofs.Common.{sym, ap, ◌∙◌, subst}
 use Rattle.std.proofs.lemmas.Result.{err_from_is_err_and}
+use Rattle.lang.specs.Instr.{number_at}
 use Rattle.parse.specs.Reading.{snap}
 use Rattle.parse.specs.Whole.{WholeRead, program∞}
 use Rattle.parse.proofs.Wholes.{whole_read}
@@ -31,9 +32,10 @@ returns-in_err-procedures c =
 
 pub returns : goal.returns
 returns c =
-    let text = c.args.text.now in
-    let s = snap text c.args.self.now in
+    let s = snap c.args.self.now in
     let one = c.in_ok-expect.ensures in
     let two = c.in_ok-width.ensures in
     let three = c.in_ok-expect-2.ensures in
-    subst (WholeRead s _) (sym c.number_at.ensures) (whole_read s _ _ _ _ _ one.0 one.1 two.0 two.1 three.0 three.1 c.in_ok-procedures.ensures)
+    let read = c.in_ok-procedures.ensures in
+    let width = c.number_at.ensures ∙ ap (λ w. number_at w c.in_ok-width.width.0) (read.text ∙ ap (λ r. r.text) three.1 ∙ ap (λ r. r.text) two.1) in
+    subst (WholeRead s _) (sym width) (whole_read s _ _ _ _ _ one.0 one.1 two.0 two.1 three.0 three.1 read)

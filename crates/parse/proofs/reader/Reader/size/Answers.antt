@@ -13,30 +13,29 @@ use Rattle.parse.proofs.Rooms.{paid_none, paid_row}
 use Rattle.parse.proofs.reader.Reader.size.Goals as goal
 
 pub emit-requires : goal.emit-requires
-emit-requires c = omega (arith, length_push (snap c.args.text.now c.args.self.now).code scalar, c.requires.code)
+emit-requires c = omega (arith, length_push (snap c.args.self.now).code scalar, c.requires.code)
 
 pub returns-then-not-at : goal.returns-then-not-at
 returns-then-not-at c =
-    let s = snap c.args.text.now c.args.self.now in
+    let s = snap c.args.self.now in
     record { reads = λ x. subst (Read (sized x) (λ d. code_size d ∷ []) s) (sym c.emit.ensures) (sized_number s x (sym c.if-not-at.ensures)); paid = subst (Paid (emitted scalar s)) (sym c.emit.ensures) (paid_none _) }
 
 pub emit-requires-2 : goal.emit-requires-2
 emit-requires-2 c =
-    let text = c.args.text.now in
-    let s = snap text c.args.self.now in
-    let two : snap text c.number.new.self ≡ advanced (advanced s) = c.in_ok-length.ensures.1 ∙ ap advanced c.advance.ensures in
+    let s = snap c.args.self.now in
+    let two : snap c.number.new.self ≡ advanced (advanced s) = c.in_ok-length.ensures.1 ∙ ap advanced c.advance.ensures in
     omega (arith, length_push s.code scalar, c.requires.code, ap (λ t. length t.code) two, ap (λ t. t.code_room) two)
 
 pub returns : goal.returns
 returns c =
-    let text = c.args.text.now in
-    let s = snap text c.args.self.now in
+    let text = c.args.self.now.text.now in
+    let s = snap c.args.self.now in
     let n = number_at text c.in_ok-length.length.0 in
-    let two : snap text c.number.new.self ≡ advanced (advanced s) = c.in_ok-length.ensures.1 ∙ ap advanced c.advance.ensures in
+    let two : snap c.number.new.self ≡ advanced (advanced s) = c.in_ok-length.ensures.1 ∙ ap advanced c.advance.ensures in
     let b : starts LeftBracket s.ahead ≡ true = sym c.if-not-at.ensures in
-    let m : a_number (onward s.ahead) ≡ Some (n, onward (onward s.ahead)) = ap (λ t. a_number t.ahead) (sym c.advance.ensures) ∙ c.in_ok-length.ensures.0 ∙ ap (λ t. Some (n, t.ahead)) two in
-    let z : eqb n 0 ≡ false = ne_eqb n 0 (λ e. c.if-number_at-eq0.false (c.number_at.ensures ∙ e)) in
-    let wrote : snap text c.emit-2.new.self ≡ emitted (row n) (advanced (advanced s)) = c.emit-2.ensures ∙ ap (emitted (row n)) two in
+    let m : a_number (onward s.ahead) ≡ Some (n, onward (onward s.ahead)) = ap (λ t. a_number t.ahead) (sym c.advance.ensures) ∙ c.in_ok-length.ensures.0 ∙ (λ i. Some (number_at (c.advance.ensures i).text c.in_ok-length.length.0, (two i).ahead)) in
+    let z : eqb n 0 ≡ false = ne_eqb n 0 (λ e. c.if-number_at-eq0.false (c.number_at.ensures ∙ ap (λ t. number_at t.text c.in_ok-length.length.0) two ∙ e)) in
+    let wrote : snap c.emit-2.new.self ≡ emitted (row n) (advanced (advanced s)) = c.emit-2.ensures ∙ ap (λ t. emitted (row (number_at t.text c.in_ok-length.length.0)) t) two in
     let after = c.in_ok-expect.ensures.1 ∙ ap advanced wrote in
     let e : expect RightBracket (onward (onward s.ahead)) ≡ Some (onward (onward (onward s.ahead))) = ap (λ t. expect RightBracket t.ahead) (sym wrote) ∙ c.in_ok-expect.ensures.0 ∙ ap (λ t. Some t.ahead) after in
     record {
