@@ -1,5 +1,6 @@
 -- Finding a name among declarations.
 use Rattle.std.proofs.Common.{◌≡◌, Bool, true, false, cond, List, [], ◌∷◌, ◌++◌, Some, None, Option, refl}
+use Rattle.std.specs.Option.{option_or}
 use Rattle.lang.specs.Base.{◌>>=◌, Word, same}
 use Rattle.lang.specs.Soundness.{find_decl}
 use Rattle.lang.specs.Syntax.{Decl}
@@ -24,23 +25,18 @@ module _ (x : Word) where
   pub size_behind : {ds es : List Decl} {d : Decl} → ds ≡ d ∷ es → false ≡ same d.name x → size_in es x ≡ size_in ds x
   size_behind {es = es} {d = d} e t = rw (e, size_more d es x, ← t)
 
--- the first of two
-abbrev pub or_else : {A : Type 0} → Option A → Option A → Option A
-or_else None o = o
-or_else (Some x) o = Some x
+cond_option_or : {A : Type 0} (b : Bool) (x : A) (o q : Option A) → cond b (Some x) (option_or o q) ≡ option_or (cond b (Some x) o) q
+cond_option_or true x o q = refl
+cond_option_or false x o q = refl
 
-cond_or_else : {A : Type 0} (b : Bool) (x : A) (o q : Option A) → cond b (Some x) (or_else o q) ≡ or_else (cond b (Some x) o) q
-cond_or_else true x o q = refl
-cond_or_else false x o q = refl
-
-pub find_append : (ds es : List Decl) (x : Word) → find_decl (ds ++ es) x ≡ or_else (find_decl ds x) (find_decl es x)
+pub find_append : (ds es : List Decl) (x : Word) → find_decl (ds ++ es) x ≡ option_or (find_decl ds x) (find_decl es x)
 unfolding find_decl
 find_append [] es x = refl
-find_append (d ∷ ds) es x = rw (find_append ds es x) (cond_or_else (same d.name x) d (find_decl ds x) (find_decl es x))
+find_append (d ∷ ds) es x = rw (find_append ds es x) (cond_option_or (same d.name x) d (find_decl ds x) (find_decl es x))
 
-size_or_else : (o q : Option Decl) → (or_else o q >>= λ d. Some d.size) ≡ or_else (o >>= λ d. Some d.size) (q >>= λ d. Some d.size)
-size_or_else None q = refl
-size_or_else (Some d) q = refl
+size_option_or : (o q : Option Decl) → (option_or o q >>= λ d. Some d.size) ≡ option_or (o >>= λ d. Some d.size) (q >>= λ d. Some d.size)
+size_option_or None q = refl
+size_option_or (Some d) q = refl
 
-pub size_append : (ds es : List Decl) (x : Word) → size_in (ds ++ es) x ≡ or_else (size_in ds x) (size_in es x)
-size_append ds es x = rw (find_append ds es x) (size_or_else (find_decl ds x) (find_decl es x))
+pub size_append : (ds es : List Decl) (x : Word) → size_in (ds ++ es) x ≡ option_or (size_in ds x) (size_in es x)
+size_append ds es x = rw (find_append ds es x) (size_option_or (find_decl ds x) (find_decl es x))

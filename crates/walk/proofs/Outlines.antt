@@ -7,7 +7,8 @@ use Rattle.lang.specs.Code.{code_bool, code_expr, code_size, code_params, code_l
 use Rattle.lang.specs.Holding.{code_of}
 use Rattle.lang.specs.Instr as instr
 use Rattle.lang.specs.Instr.{Instr}
-use Rattle.walk.specs.Roles.{role, declared_size, begun_name, part_length}
+use Rattle.walk.specs.Roles.{role, declared_size, begun_name}
+use Rattle.walk.specs.Spans.{span}
 use Rattle.lang.specs.Soundness.{find_proc}
 use Rattle.lang.specs.Syntax.{Decl, Proc}
 use Rattle.walk.specs.Walking.{first, rest, word, declared, code_head, Laid, ProcAt, Left}
@@ -60,11 +61,11 @@ module _ (code : List Instr) (i r : ℕ) (k : List Instr) (here : drop i code �
   pub skipped : (n : ℕ) → r ≡ min (i + n) (length code) → drop r code ≡ drop n k
   skipped n e = rw e (drop_min code (i + n) ∙ sym (drop-drop n i code) ∙ ap (drop n) here)
 
-  pub part_skipped : r ≡ min (i + 1 + part_length (role (first (drop i code)))) (length code) → drop r code ≡ drop (part_length (role (first k))) (drop 1 k)
+  pub part_skipped : r ≡ min (i + 1 + span (first (drop i code))) (length code) → drop r code ≡ drop (span (first k)) (drop 1 k)
   part_skipped e =
-      let n = part_length (role (first k)) in
+      let n = span (first k) in
       let order : i + 1 + n ≡ i + (1 + n) = omega arith in
-      skipped (1 + n) (e ∙ ap (λ m. min m (length code)) (ap (λ j. i + 1 + part_length (role (first j))) here ∙ order)) ∙ sym (drop-drop n 1 k)
+      skipped (1 + n) (e ∙ ap (λ m. min m (length code)) (ap (λ j. i + 1 + span (first j)) here ∙ order)) ∙ sym (drop-drop n 1 k)
 
   pub declared_skipped : r ≡ i + 2 * length (declared (drop i code)) → drop r code ≡ drop (2 * length (declared k)) k
   declared_skipped e = rw (e, ← (drop-drop (2 * length (declared (drop i code))) i code), here) refl
@@ -82,7 +83,7 @@ module _ (q : Proc) (k : List Instr) where
   locals_end : declared (instr.body (length (code_block q.body [])) ∷ body_code) ≡ []
   locals_end = no_name (instr.body (length (code_block q.body [])) ∷ body_code) refl
 
-  behind_head : (code : List Instr) (h a b l : ℕ) → drop h code ≡ code_head q locals_code → a ≡ min (h + 1 + part_length (role (first (drop h code)))) (length code) → b ≡ min (a + 1 + part_length (role (first (drop a code)))) (length code) → l ≡ min (b + 1 + part_length (role (first (drop b code)))) (length code) → drop l code ≡ locals_code
+  behind_head : (code : List Instr) (h a b l : ℕ) → drop h code ≡ code_head q locals_code → a ≡ min (h + 1 + span (first (drop h code))) (length code) → b ≡ min (a + 1 + span (first (drop a code))) (length code) → l ≡ min (b + 1 + span (first (drop b code))) (length code) → drop l code ≡ locals_code
   behind_head code h a b l here e f g =
       let at_post = part_skipped code h a _ here e ∙ behind_part (code_bool q.pre) _ (bool_front q.pre) in
       let at_measure = part_skipped code a b _ at_post f ∙ behind_part (code_bool q.post) _ (bool_front q.post) in
@@ -99,9 +100,9 @@ module _ (q : Proc) (k : List Instr) where
       rest held i ≡ code_proc q k →
       o.params ≡ min (i + 2) (length (code_of held)) →
       o.head ≡ o.params + 2 * length (declared (rest held o.params)) →
-      a ≡ min (o.head + 1 + part_length (role (first (rest held o.head)))) (length (code_of held)) →
-      b ≡ min (a + 1 + part_length (role (first (rest held a)))) (length (code_of held)) →
-      o.locals ≡ min (b + 1 + part_length (role (first (rest held b)))) (length (code_of held)) →
+      a ≡ min (o.head + 1 + span (first (rest held o.head))) (length (code_of held)) →
+      b ≡ min (a + 1 + span (first (rest held a))) (length (code_of held)) →
+      o.locals ≡ min (b + 1 + span (first (rest held b))) (length (code_of held)) →
       e ≡ o.locals + 2 * length (declared (rest held o.locals)) →
       o.body ≡ min (e + 1) (length (code_of held)) →
       Laid held o q k
@@ -119,12 +120,12 @@ parts_front : (q : Proc) → Front (code_parts q)
 parts_front q = then_front (params_front q.params) (then_front (one_front _) (then_front (bool_front q.pre) (then_front (one_front _) (then_front (bool_front q.post) (then_front (one_front _) (then_front (expr_front q.measure) (then_front (locals_front q.locals) (then_front (one_front _) (then_front (block_front q.body) (one_front _))))))))))
 
 -- what stands at the beginning of procedures, and behind the first
-pub begun : (held : Program) (i : ℕ) (f : Procedure) (qs : List Proc) → rest held i ≡ code_procs qs [] → Some (word held f.name) ≡ begun_name (role (first (rest held i))) → f.next ≡ min (i + 1 + 1 + part_length (role (first (rest held (i + 1))))) (length (code_of held)) → ProcAt held i f qs
-begun held i f [] here e g = let z : ◌≡◌ {A = ℕ} 0 1 = cc in absurd (omega arith)
-begun held i f (q ∷ qs) here e g =
+pub begun : (held : Program) (i : ℕ) (f : Procedure) (qs : List Proc) → rest held i ≡ code_procs qs [] → f.name.text.now ≡ word held f.name.at → Some (word held f.name.at) ≡ begun_name (role (first (rest held i))) → f.next ≡ min (i + 1 + 1 + span (first (rest held (i + 1)))) (length (code_of held)) → ProcAt held i f qs
+begun held i f [] here named e g = let z : ◌≡◌ {A = ℕ} 0 1 = cc in absurd (omega arith)
+begun held i f (q ∷ qs) here named e g =
     let k = code_procs qs [] in
     let next : rest held (i + 1) ≡ instr.extent (length (code_parts q [])) ∷ code_parts q k = sym (drop-drop 1 i (code_of held)) ∙ ap (drop 1) here in
-    record { this = q; others = qs; split = refl; name = let same : Some (word held f.name) ≡ Some q.name = e ∙ ap (λ k. begun_name (role (first k))) here in cc; here = here; behind = part_skipped (code_of held) (i + 1) f.next _ next g ∙ behind_part (code_parts q) k (parts_front q) }
+    record { this = q; others = qs; split = refl; name = let same : Some (word held f.name.at) ≡ Some q.name = e ∙ ap (λ k. begun_name (role (first k))) here in cc; named = named; here = here; behind = part_skipped (code_of held) (i + 1) f.next _ next g ∙ behind_part (code_parts q) k (parts_front q) }
 
 pub not_begun : (held : Program) (i : ℕ) (qs : List Proc) → rest held i ≡ code_procs qs [] → None ≡ begun_name (role (first (rest held i))) → qs ≡ []
 not_begun held i [] here e = refl
@@ -137,12 +138,12 @@ module _ (held : Program) (x : Word) (value : Option Proc) (i : ℕ) (left : Lef
   proc_none e = sym left.same ∙ rw e refl
 
   module _ (f : Procedure) (at : ProcAt held i f left.procs) where
-    step : find_proc left.procs x ≡ cond (same (word held f.name) x) (Some at.this) (find_proc at.others x)
+    step : find_proc left.procs x ≡ cond (same f.name.text.now x) (Some at.this) (find_proc at.others x)
     unfolding find_proc
     step = rw (at.split, at.name)
 
-    pub proc_here : true ≡ same (word held f.name) x → value ≡ Some at.this
+    pub proc_here : true ≡ same f.name.text.now x → value ≡ Some at.this
     proc_here t = sym left.same ∙ step ∙ rw (← t) refl
 
-    pub proc_behind : false ≡ same (word held f.name) x → Left (λ qs. find_proc qs x) (rest held f.next) value
+    pub proc_behind : false ≡ same f.name.text.now x → Left (λ qs. find_proc qs x) (rest held f.next) value
     proc_behind t = record { procs = at.others; code = at.behind; same = sym (step ∙ rw (← t) refl) ∙ left.same }

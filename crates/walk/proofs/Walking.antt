@@ -1,25 +1,28 @@
 -- Going through code by indices.
-use Rattle.std.proofs.Common.{◌≡◌, ℕ, zero, suc, ◌+◌, ◌^◌, ◌<◌, false, List, [], ◌∷◌, map, length, drop, Some, None, Option, sym, refl, ap, ◌∙◌, suc-le-suc, arith, MatchOption}
+use Rattle.std.proofs.Common.{◌≡◌, ℕ, zero, suc, ◌+◌, ◌^◌, ◌<◌, false, List, [], ◌∷◌, map, length, drop, Some, None, Option, sym, refl, ap, ◌∙◌, suc-le-suc, arith}
 use Rattle.std.proofs.lemmas.List.{drop-drop, drop_all}
 use Rattle.std.proofs.lemmas.Bool.{both_ways}
 use Rattle.std.specs.List.{slice_get}
-use Rattle.lang.specs.Base.{◌>>=◌, maybe, Word}
+use Rattle.std.specs.Option.{unwrap_or}
+use Rattle.lang.specs.Base.{◌>>=◌, Word}
 use Rattle.lang.specs.Holding.{code_of}
 use Rattle.lang.specs.Instr as instr
 use Rattle.lang.specs.Instr.{Instr}
+use Rattle.walk.specs.Shapes.{size_of}
 use Rattle.walk.specs.Roles.{Role, leaves, role, ends, declared_name, declared_size, passed_name}
 use Rattle.lang.specs.Syntax.{Decl}
-use Rattle.walk.specs.Walking.{first, rest, word_of, declared, DeclaredAt, passed, PassedAt, InPart}
+use Rattle.walk.specs.Walking.{first, rest, word, word_of, declared, DeclaredAt, passed, PassedAt, InPart}
 use Rattle.lang.specs.declared.code.Node.{Node}
-use Rattle.lang.specs.declared.code.Place.{Place}
 use Rattle.lang.specs.declared.program.Program.{Program}
 use Rattle.walk.specs.declared.declarations.Declaration.{Declaration}
+use Rattle.walk.specs.declared.name.Name.{Name}
 
-pub first_nth : {A : Type 0} (f : A → Instr) (xs : List A) (i : ℕ) (o : Option A) → o ≡ slice_get xs i → maybe o instr.end_proc f ≡ first (drop i (map f xs))
-first_nth f [] zero o e = rw e
-first_nth f [] (suc i) o e = rw e
-first_nth f (x ∷ xs) zero o e = rw e
-first_nth f (x ∷ xs) (suc i) o e = first_nth f xs i o e
+-- f: what a node is as an instruction, z: a node that ends a procedure
+pub first_nth : {A : Type 0} (f : A → Instr) (z : A) → f z ≡ instr.end_proc → (xs : List A) (i : ℕ) → f (unwrap_or (slice_get xs i) z) ≡ first (drop i (map f xs))
+first_nth f z e [] zero = e
+first_nth f z e [] (suc i) = e
+first_nth f z e (x ∷ xs) zero = refl
+first_nth f z e (x ∷ xs) (suc i) = first_nth f z e xs i
 
 -- an instruction that does not end a procedure is there
 pub record Here (code : List Instr) (i : ℕ) : Type 0 where
@@ -62,7 +65,7 @@ declared_more (i ∷ s ∷ k) x n e f = rw (e, f)
 pub found_here : {A : Type 0} (f : Role → Option A) (code : List Instr) (i : ℕ) (x : A) → f leaves ≡ None → f (role (first (drop i code))) ≡ Some x → Here code i
 found_here f code i x none e = here code i (λ end. let z : ◌≡◌ {A = ℕ} 0 1 = cc (ap (λ s. f (role s)) end) in absurd (omega arith))
 
-no_passed : (k : List Instr) → passed_name (role (first k)) ≡ None → passed k ≡ []
+pub no_passed : (k : List Instr) → passed_name (role (first k)) ≡ None → passed k ≡ []
 unfolding passed
 no_passed [] e = refl
 no_passed (s ∷ k) e = rw e
@@ -71,20 +74,17 @@ module _ (held : Program) (i : ℕ) where
   pub no_declaration : declared_size (role (first (rest held (i + 1)))) ≡ None → declared (rest held i) ≡ []
   no_declaration e = no_size (rest held i) (rw (drop-drop 1 i (code_of held)) e)
 
-  pub declared_here : (d : Declaration) → word_of held (Some d.name) ≡ declared_name (role (first (rest held i))) → Some d.size ≡ declared_size (role (first (rest held (i + 1)))) → length (code_of held) < 2 ^ 64 → DeclaredAt held i d
-  declared_here d e f h =
-      let inside = (found_here declared_size (code_of held) (i + 1) d.size refl (sym f)).within in
-      record { here = rw (← (drop-drop 2 i (code_of held))) (declared_more (rest held i) _ d.size (sym e) (rw (drop-drop 1 i (code_of held)) (sym f))); within = inside; room = omega arith }
+  pub declared_here : (d : Declaration) → d.name.text.now ≡ word held d.name.at → word_of held (Some d.name.at) ≡ declared_name (role (first (rest held i))) → Some (size_of d.shape) ≡ declared_size (role (first (rest held (i + 1)))) → length (code_of held) < 2 ^ 64 → DeclaredAt held i d
+  declared_here d named e f h =
+      let inside = (found_here declared_size (code_of held) (i + 1) (size_of d.shape) refl (sym f)).within in
+      let more = declared_more (rest held i) d.name.text.now (size_of d.shape) (sym e ∙ ap Some (sym named)) (rw (drop-drop 1 i (code_of held)) (sym f)) in
+      record { here = rw (← (drop-drop 2 i (code_of held))) more; named = named; within = inside; room = omega arith }
 
-  passed_here : (x : Place) → word_of held (Some x) ≡ passed_name (role (first (rest held i))) → length (code_of held) < 2 ^ 64 → PassedAt held i x
+  pub passed_here : (x : Name) → x.text.now ≡ word held x.at → word_of held (Some x.at) ≡ passed_name (role (first (rest held i))) → length (code_of held) < 2 ^ 64 → PassedAt held i x
   unfolding passed
-  passed_here x e h =
+  passed_here x named e h =
       let found = found_here passed_name (code_of held) i _ refl (sym e) in
-      record { here = ap passed found.splits ∙ rw (← e) refl; within = found.within; room = omega arith }
-
-  pub passed_at : (o : Option Place) → word_of held o ≡ passed_name (role (first (rest held i))) → length (code_of held) < 2 ^ 64 → MatchOption o (passed (rest held i) ≡ []) (λ x. PassedAt held i x)
-  passed_at None e h = no_passed (rest held i) (sym e)
-  passed_at (Some x) e h = passed_here x e h
+      record { here = ap passed found.splits ∙ rw (← e, named) refl; named = named; within = found.within; room = omega arith }
 
 -- nothing is declared behind the last instruction
 pub none_at_end : (held : Program) (n : ℕ) → n ≡ length (code_of held) → declared (rest held n) ≡ []

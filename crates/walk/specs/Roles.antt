@@ -132,21 +132,6 @@ begun_name (part n) = None
 begun_name leaves = None
 begun_name plain = None
 
--- how many instructions a procedure or a part of its head has
-abbrev pub part_length : Role → ℕ
-part_length (uses u x) = 0
-part_length (counter x) = 0
-part_length (limit n) = 0
-part_length counted = 0
-part_length (calls f) = 0
-part_length (passes x) = 0
-part_length (declares x) = 0
-part_length (sized n) = 0
-part_length (begins f) = 0
-part_length (part n) = n
-part_length leaves = 0
-part_length plain = 0
-
 -- a head ends where locals or the body begin, and a body at the procedure's end
 abbrev pub ends : Role → Bool
 ends (uses u x) = false

@@ -5,6 +5,7 @@ use Rattle.lang.specs.Code.{code_bool, code_expr, code_locals, code_block, code_
 use Rattle.lang.specs.Holding.{code_of}
 use Rattle.lang.specs.Instr as instr
 use Rattle.lang.specs.Instr.{Instr, name_at}
+use Rattle.walk.specs.Shapes.{size_of}
 use Rattle.walk.specs.Roles.{Role, role, declared_name, declared_size, passed_name, ends}
 use Rattle.lang.specs.Soundness.{find_decl, find_proc}
 use Rattle.lang.specs.Syntax.{Decl, Proc}
@@ -12,6 +13,7 @@ use Rattle.lang.specs.declared.code.Node.{Node}
 use Rattle.lang.specs.declared.code.Place.{Place}
 use Rattle.lang.specs.declared.program.Program.{Program}
 use Rattle.walk.specs.declared.declarations.Declaration.{Declaration}
+use Rattle.walk.specs.declared.name.Name.{Name}
 use Rattle.walk.specs.declared.procedures.Outline.{Outline}
 use Rattle.walk.specs.declared.procedures.Procedure.{Procedure}
 
@@ -45,17 +47,19 @@ abbrev pub word_of : Program → Option Place → Option Word
 word_of held o = o >>= λ p. Some (word held p)
 
 -- a declaration that is found at an index
-abbrev pub decl : Program → Declaration → Decl
-decl held d = record { name = word held d.name; size = d.size }
+abbrev pub decl : Declaration → Decl
+decl d = record { name = d.name.text.now; size = size_of d.shape }
 
 pub record DeclaredAt (held : Program) (i : ℕ) (d : Declaration) : Type 0 where
-  pub here : declared (rest held i) ≡ decl held d ∷ declared (rest held (i + 2))
+  pub here : declared (rest held i) ≡ decl d ∷ declared (rest held (i + 2))
+  pub named : d.name.text.now ≡ word held d.name.at
   pub within : i + 1 < length (code_of held)
   pub room : i + 2 < 2 ^ 64
 
 -- an argument that is found at an index
-pub record PassedAt (held : Program) (i : ℕ) (x : Place) : Type 0 where
-  pub here : passed (rest held i) ≡ word held x ∷ passed (rest held (i + 1))
+pub record PassedAt (held : Program) (i : ℕ) (x : Name) : Type 0 where
+  pub here : passed (rest held i) ≡ x.text.now ∷ passed (rest held (i + 1))
+  pub named : x.text.now ≡ word held x.at
   pub within : i < length (code_of held)
   pub room : i + 1 < 2 ^ 64
 
@@ -86,7 +90,8 @@ pub record ProcAt (held : Program) (i : ℕ) (f : Procedure) (qs : List Proc) : 
   pub this : Proc
   pub others : List Proc
   pub split : qs ≡ this ∷ others
-  pub name : word held f.name ≡ this.name
+  pub name : f.name.text.now ≡ this.name
+  pub named : f.name.text.now ≡ word held f.name.at
   pub here : rest held i ≡ code_proc this (code_procs others [])
   pub behind : rest held f.next ≡ code_procs others []
 

@@ -1,18 +1,28 @@
 // Names as they are declared: parameters and locals.
 ghost use Rattle.std.specs.Prelude.{◌≡◌, ◌+◌, ◌*◌, ◌^◌, ◌<◌, [], length, MatchOption};
+ghost use Rattle.std.specs.Option.{option_map};
 ghost use Rattle.lang.specs.Holding.{code_of};
+ghost use Rattle.walk.specs.Listing.{declared_in};
 ghost use Rattle.walk.specs.Roles.{role, declared_name, declared_size};
+ghost use Rattle.walk.specs.Shapes.{size_of};
 ghost use Rattle.walk.specs.Walking.{first, rest, word, word_of, declared, DeclaredAt, size_in};
 
+use crate::name::Name;
+use crate::shape::Shape;
 use lang::code::{Node, Place};
 use lang::program::Program;
-use lang::scan;
 
-// A name with its size, 0 for a number.
 #[derive(Clone, Copy)]
-pub struct Declaration {
-    pub name: Place,
-    pub size: u64,
+pub struct Declaration<'p> {
+    pub name: Name<'p>,
+    pub shape: Shape,
+}
+
+// What is declared one after the other from an index on.
+#[derive(Clone, Copy)]
+pub struct Declarations<'p> {
+    pub program: &'p Program<'p>,
+    pub at: usize,
 }
 
 fn declared_name(program: &Program<'_>, i: usize) -> Option<Place>
@@ -25,49 +35,88 @@ fn declared_name(program: &Program<'_>, i: usize) -> Option<Place>
     }
 }
 
-fn declared_size(program: &Program<'_>, i: usize) -> Option<u64>
-    ensures { result ≡ declared_size (role (first (rest program.now i))) }
+fn declared_shape(program: &Program<'_>, i: usize) -> Option<Shape>
+    ensures { option_map size_of result ≡ declared_size (role (first (rest program.now i))) }
 {
     match crate::at(program, i) {
-        Node::Scalar => Some(0),
-        Node::Row(n) => Some(scan::number_at(program.text, n.0)),
+        Node::Scalar => Some(Shape::Scalar),
+        Node::Row(n) => Some(Shape::of_size(program.number(n))),
         _ => None,
     }
 }
 
 // The declaration at an index.
-pub fn at(program: &Program<'_>, i: usize) -> Option<Declaration>
+pub fn at<'p>(program: &'p Program<'p>, i: usize) -> Option<Declaration<'p>>
     ensures { MatchOption result (declared (rest program.now i) ≡ []) (λ d. DeclaredAt program.now i d) }
 {
-    let Some(name) = declared_name(program, i) else {
-        return None;
-    };
-    let Some(size) = declared_size(program, i + 1) else {
-        return None;
-    };
-    Some(Declaration { name, size })
+    let place = declared_name(program, i)?;
+    let shape = declared_shape(program, i + 1)?;
+    Some(Declaration {
+        name: Name::at(program, place),
+        shape,
+    })
 }
 
-// The size with which a name is declared, at an index or behind it.
-pub fn find(program: &Program<'_>, from: usize, name: Place) -> Option<u64>
-    ensures { result ≡ size_in (declared (rest program.now from)) (word program.now name) }
+// The declarations from an index on.
+pub fn from<'p>(program: &'p Program<'p>, at: usize) -> Declarations<'p>
+    ensures { declared_in result ≡ declared (rest program.now at) }
 {
-    let mut i = from;
-    while let Some(d) = at(program, i) {
-        if scan::same_name(program.text, d.name.0, name.0) {
-            return Some(d.size);
-        }
-        i += 2;
+    Declarations { program, at }
+}
+
+// None at all: behind the last node nothing is declared.
+pub fn none<'p>(program: &'p Program<'p>) -> Declarations<'p>
+    ensures { declared_in result ≡ [] }
+{
+    from(program, crate::len(program))
+}
+
+impl<'p> Iterator for Declarations<'p> {
+    ghost use Rattle.std.specs.Iterator.{item_count, YieldsFirstBy};
+    ghost use Rattle.walk.specs.Listing.{declared_in};
+    ghost use Rattle.walk.specs.Walking.{decl};
+
+    type Item = Declaration<'p>;
+
+    ghost next_gives = { YieldsFirstBy decl declared_in };
+
+    ghost remaining = { item_count declared_in };
+
+    fn next(&mut self) -> Option<Declaration<'p>> {
+        let d = at(self.program, self.at)?;
+        self.at += 2;
+        Some(d)
     }
-    None
+}
+
+impl<'p> Declarations<'p> {
+    // What a name is declared as.
+    pub fn shape(self, name: &[u8]) -> Option<Shape>
+        ensures { option_map size_of result ≡ size_in (declared_in self.entry) name.now }
+    {
+        for d in self {
+            if d.name.is(name) {
+                return Some(d.shape);
+            }
+        }
+        None
+    }
+}
+
+// The shape with which a name is declared, at an index or behind it.
+pub fn find(program: &Program<'_>, from: usize, name: Place) -> Option<Shape>
+    ensures { option_map size_of result ≡ size_in (declared (rest program.now from)) (word program.now name) }
+{
+    crate::declarations::from(&*program, from).shape(program.name(name))
 }
 
 // The index behind the last declaration.
 pub fn end(program: &Program<'_>, from: usize) -> usize
     ensures { result ≡ from + 2 * length (declared (rest program.now from)) }
 {
+    // The index itself is asked for, so this loop is over indices.
     let mut i = from;
-    while let Some(_) = at(program, i) {
+    while let Some(_) = at(&*program, i) {
         i += 2;
     }
     i

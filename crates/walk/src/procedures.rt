@@ -1,17 +1,17 @@
 // Procedures one after the other, and the parts of one.
-ghost use Rattle.std.specs.Prelude.{◌≡◌, ◌+◌, ◌^◌, ◌<◌, min, List, [], length, IfSome, None, MatchOption};
+ghost use Rattle.std.specs.Prelude.{◌≡◌, ◌+◌, ◌^◌, ◌<◌, min, List, [], length, IfSome, None, MatchOption, is_some};
 ghost use Rattle.lang.specs.Code.{code_proc, code_procs};
 ghost use Rattle.lang.specs.Holding.{code_of};
 ghost use Rattle.lang.specs.Instr.{Instr};
-ghost use Rattle.walk.specs.Roles.{role, begun_name, part_length};
+ghost use Rattle.walk.specs.Roles.{role, begun_name};
 ghost use Rattle.lang.specs.Soundness.{find_proc};
 ghost use Rattle.lang.specs.Syntax.{Proc};
 ghost use Rattle.walk.specs.Walking.{first, rest, word, word_of, Laid, ProcAt, ProcFound};
 
 use crate::declarations;
+use crate::name::Name;
 use lang::code::{Node, Place};
 use lang::program::Program;
-use lang::scan;
 
 // Where the parts of a procedure begin: its parameters, what it asks, promises and measures, its locals, its statements.
 #[derive(Clone, Copy)]
@@ -22,27 +22,19 @@ pub struct Outline {
     pub body: usize,
 }
 
-// A procedure's name, and the index behind its end.
+// A procedure: where it begins, its name, and the index behind its end.
 #[derive(Clone, Copy)]
-pub struct Procedure {
-    pub name: Place,
+pub struct Procedure<'p> {
+    pub start: usize,
+    pub name: Name<'p>,
     pub next: usize,
 }
 
-fn part_length(program: &Program<'_>, i: usize) -> usize
-    ensures { result ≡ part_length (role (first (rest program.now i))) }
-{
-    match crate::at(program, i) {
-        Node::Extent(n) | Node::Pre(n) | Node::Post(n) | Node::Measure(n) => n,
-        _ => 0,
-    }
-}
-
-// The index behind a procedure or a part of its head.
-fn part_end(program: &Program<'_>, i: usize) -> usize
-    ensures { result ≡ min (i + 1 + part_length (role (first (rest program.now i)))) (length (code_of program.now)) }
-{
-    crate::skip(program, crate::skip(program, i, 1), part_length(program, i))
+// What procedures there are one after the other from an index on.
+#[derive(Clone, Copy)]
+pub struct Procedures<'p> {
+    pub program: &'p Program<'p>,
+    pub at: usize,
 }
 
 // The parts of the procedure at an index.
@@ -51,7 +43,9 @@ pub fn outline_at(program: &Program<'_>, i: usize) -> Outline
 {
     let params = crate::skip(program, i, 2);
     let head = declarations::end(program, params);
-    let locals = part_end(program, part_end(program, part_end(program, head)));
+    let post = crate::part_end(program, head);
+    let measure = crate::part_end(program, post);
+    let locals = crate::part_end(program, measure);
     let body = crate::skip(program, declarations::end(program, locals), 1);
     Outline {
         params,
@@ -72,29 +66,52 @@ fn begun_name(program: &Program<'_>, i: usize) -> Option<Place>
 }
 
 // The procedure at an index.
-pub fn at(program: &Program<'_>, i: usize) -> Option<Procedure>
+pub fn at<'p>(program: &'p Program<'p>, i: usize) -> Option<Procedure<'p>>
     ensures onward { IfSome result (λ f. (i < f.next) × (i < length (code_of program.now))) }
     ensures finds { (qs : List Proc) → rest program.now i ≡ code_procs qs [] → MatchOption result (qs ≡ []) (λ f. ProcAt program.now i f qs) }
+    ensures start { IfSome result (λ f. f.start ≡ i) }
+    ensures begins { is_some result ≡ is_some (begun_name (role (first (rest program.now i)))) }
 {
-    let Some(name) = begun_name(program, i) else {
-        return None;
-    };
+    let place = begun_name(program, i)?;
     Some(Procedure {
-        name,
-        next: part_end(program, i + 1),
+        start: i,
+        name: Name::at(program, place),
+        next: crate::part_end(program, i + 1),
     })
+}
+
+// The procedures from an index on.
+pub fn from<'p>(program: &'p Program<'p>, at: usize) -> Procedures<'p>
+    ensures program { result.program.now ≡ program.now }
+    ensures at { result.at ≡ at }
+{
+    Procedures { program, at }
+}
+
+impl<'p> Iterator for Procedures<'p> {
+    ghost use Rattle.walk.specs.Listing.{nodes_left, GivesProcedure};
+
+    type Item = Procedure<'p>;
+
+    ghost next_gives = { GivesProcedure };
+
+    ghost remaining = { nodes_left };
+
+    fn next(&mut self) -> Option<Procedure<'p>> {
+        let f = at(self.program, self.at)?;
+        self.at = f.next;
+        Some(f)
+    }
 }
 
 // The procedure with the name of these bytes, at an index or behind it.
 pub fn find_named(program: &Program<'_>, from: usize, name: &[u8]) -> Option<usize>
     ensures { (qs : List Proc) → rest program.now from ≡ code_procs qs [] → MatchOption result (find_proc qs name.now ≡ None) (λ i. ProcFound program.now i qs name.now) }
 {
-    let mut i = from;
-    while let Some(f) = at(program, i) {
-        if scan::has_name(program.text, f.name.0, name) {
-            return Some(i);
+    for f in crate::procedures::from(&*program, from) {
+        if f.name.is(name) {
+            return Some(f.start);
         }
-        i = f.next;
     }
     None
 }
@@ -103,5 +120,5 @@ pub fn find_named(program: &Program<'_>, from: usize, name: &[u8]) -> Option<usi
 pub fn find(program: &Program<'_>, from: usize, name: Place) -> Option<usize>
     ensures { (qs : List Proc) → rest program.now from ≡ code_procs qs [] → MatchOption result (find_proc qs (word program.now name) ≡ None) (λ i. ProcFound program.now i qs (word program.now name)) }
 {
-    find_named(program, from, scan::name(program.text, name.0))
+    find_named(program, from, program.name(name))
 }

@@ -1,17 +1,22 @@
-use Rattle.std.proofs.Common.{sym, refl, arith}
+use Rattle.std.proofs.Common.{sym, refl, ap, arith, ◌∙◌, Some, is_some}
 use Rattle.lang.specs.Holding.{code_of}
 use Rattle.walk.specs.Roles.{begun_name}
+use Rattle.walk.specs.Walking.{word}
 use Rattle.walk.proofs.Outlines.{begun, not_begun}
 use Rattle.walk.proofs.Walking.{found_here}
 use Rattle.walk.proofs.procedures.at.Goals as goal
 
-pub returns-in_default : goal.returns-in_default
-returns-in_default c = record { onward = tt; finds = λ qs here. not_begun c.args.program.now c.args.i qs here c.in_default.ensures.name }
-
-pub overflow_add-i : goal.overflow_add-i
-overflow_add-i c = omega (arith, (found_here begun_name (code_of c.args.program.now) c.args.i _ refl (sym c.in-Some.ensures.name)).within, c.in-Some.ensures.bound)
+pub returns-in_err-place-clause-finds : goal.returns-in_err-place-clause-finds
+returns-in_err-place-clause-finds c qs here = rw c.from_residual.ensures (not_begun c.args.program.now c.args.i qs here c.in_err-place.ensures.name)
 
 pub returns : goal.returns
 returns c =
-    let inside = (found_here begun_name (code_of c.args.program.now) c.args.i _ refl (sym c.in-Some.ensures.name)).within in
-    record { onward = (omega arith, inside); finds = λ qs here. begun c.args.program.now c.args.i _ qs here c.in-Some.ensures.name c.part_end.ensures }
+    let p = c.args.program.now in
+    let at = c.at.ensures.at in
+    let inside = (found_here begun_name (code_of p) c.args.i _ refl (sym c.in_ok-place.ensures.name)).within in
+    record {
+      onward = (omega arith, inside);
+      finds = λ qs here. begun p c.args.i _ qs here (c.at.ensures.text ∙ ap (word p) (sym at)) (ap (λ x. Some (word p x)) at ∙ c.in_ok-place.ensures.name) c.part_end.ensures;
+      start = refl;
+      begins = ap is_some c.in_ok-place.ensures.name;
+    }

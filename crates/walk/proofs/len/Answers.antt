@@ -1,6 +1,0 @@
-use Rattle.std.proofs.Common.{sym, ◌∙◌}
-use lib.ListN.{length-map}
-use Rattle.walk.proofs.len.Goals as goal
-
-pub returns : goal.returns
-returns c = c.len.ensures ∙ sym (length-map _ _)
