@@ -1,7 +1,7 @@
 // How much there is to show of a program.
 #![tactic(auto)]
 
-ghost use Rattle.std.specs.Prelude.{◌≡◌, ◌-◌, ◌^◌, min, true, List, ◌++◌};
+ghost use Rattle.std.specs.Prelude.{◌≡◌, ◌+◌, ◌-◌, ◌^◌, min, true, List, ◌++◌};
 ghost use Rattle.lang.specs.Amount as sizes;
 ghost use Rattle.lang.specs.Amount.{size_decls, size_proc};
 ghost use Rattle.lang.specs.Code.{code_proc};
@@ -9,48 +9,62 @@ ghost use Rattle.lang.specs.Holding.{Holds};
 ghost use Rattle.lang.specs.Instr.{Instr, instr};
 ghost use Rattle.lang.specs.Soundness.{sound, sound_proc};
 ghost use Rattle.lang.specs.Syntax as syntax;
+ghost use Rattle.walk.specs.Listing.{declared_in};
+ghost use Rattle.walk.specs.Shapes.{size_of};
 ghost use Rattle.walk.specs.Walking.{rest, declared};
-ghost use Rattle.amount.specs.Weighing.{load, level, called, weighed, no_calls, call_size};
+ghost use Rattle.amount.specs.Weighing.{load, level, called, weighed, no_calls, all_called, call_size};
 
 pub mod factors;
 
+use crate::factors::Factors;
 use lang::code::Node;
 use lang::program::Program;
 use walk;
+use walk::declarations::Declarations;
 use walk::procedures::Outline;
+use walk::shape::Shape;
 use walk::{declarations, procedures};
 
-// How much the declarations from an index on are.
-fn declared_amount(program: &Program<'_>, from: usize) -> u64
-    ensures { result ≡ min (size_decls (declared (rest program.now from))) (2 ^ 64 - 1) }
+// How much a name of that shape is.
+fn shape_amount(shape: Shape) -> u64
+    ensures { result ≡ min (1 + size_of shape) (2 ^ 64 - 1) }
+{
+    match shape {
+        Shape::Scalar => 1,
+        Shape::Row(count) => count.get().saturating_add(1),
+    }
+}
+
+// How much the declarations are.
+#[tactic(auto, using(crate::proofs::Totals::sizes_none, crate::proofs::Totals::sizes_more))]
+fn declared_amount(these: Declarations<'_>) -> u64
+    ensures { result ≡ min (size_decls (declared_in these.entry)) (2 ^ 64 - 1) }
 {
     let mut total: u64 = 0;
-    let mut i = from;
-    while let Some(d) = declarations::at(program, i) {
-        total = total.saturating_add(d.size).saturating_add(1);
-        i += 2;
+    for d in these {
+        total = total.saturating_add(shape_amount(d.shape));
     }
     total
 }
 
 // How much the names of a procedure are.
+#[tactic(auto, using(crate::proofs::Totals::sizes_append))]
 fn names_amount(program: &Program<'_>, o: Outline) -> u64
     ensures { result ≡ min (size_decls (declared (rest program.now o.params) ++ declared (rest program.now o.locals))) (2 ^ 64 - 1) }
 {
-    declared_amount(program, o.params).saturating_add(declared_amount(program, o.locals))
+    let params = declared_amount(declarations::from(&*program, o.params));
+    params.saturating_add(declared_amount(declarations::from(&*program, o.locals)))
 }
 
-// How much the head at an index is, if its measure counts so often.
-fn head_amount(program: &Program<'_>, from: usize, measure: u64) -> u64
-    ensures { result ≡ min (weighed no_calls 0 measure (level 1) (rest program.now from)) (2 ^ 64 - 1) }
+// How much the part at an index is without its calls, in a procedure whose names are so much, where a measure counts so often.
+fn part_amount(program: &Program<'_>, from: usize, names: u64, measure: u64) -> u64
+    ensures { result ≡ min (weighed no_calls names measure (level 1) (rest program.now from)) (2 ^ 64 - 1) }
 {
     let mut total: u64 = 0;
-    let mut s = factors::at_level(1);
-    let mut i = from;
-    while let Some(node) = walk::going_on(program, i) {
-        s = factors::turn(program, s, node, measure);
-        total = factors::add(program, total, s, node, 0);
-        i += 1;
+    let mut factors = Factors::at_level(1);
+    for node in walk::nodes_from(&*program, from) {
+        factors = factors.turn(program, node, measure);
+        total = factors.add(total, node, names);
     }
     total
 }
@@ -65,23 +79,18 @@ fn call_amount(program: &Program<'_>, node: Node, names: u64) -> u64
     let Some(f) = procedures::find(program, 0, name) else {
         return 1;
     };
-    let head = head_amount(program, procedures::outline_at(program, f).head, 2);
+    let head = part_amount(program, procedures::outline_at(program, f).head, 0, 2);
     head.saturating_add(names.saturating_mul(2))
         .saturating_add(4)
 }
 
-// How much the statements at an index are, in a procedure whose names are so much.
-fn body_amount(program: &Program<'_>, from: usize, names: u64) -> u64
-    ensures { (p : syntax.Program) → Holds program.now p → sound p ≡ true → result ≡ min (weighed (call_size p names) names 2 (level 1) (rest program.now from)) (2 ^ 64 - 1) }
+// How much the calls in the part at an index are, in a procedure whose names are so much.
+fn calls_amount(program: &Program<'_>, from: usize, names: u64) -> u64
+    ensures { (p : syntax.Program) → Holds program.now p → sound p ≡ true → result ≡ min (all_called (call_size p names) (rest program.now from)) (2 ^ 64 - 1) }
 {
     let mut total: u64 = 0;
-    let mut s = factors::at_level(1);
-    let mut i = from;
-    while let Some(node) = walk::going_on(program, i) {
-        s = factors::turn(program, s, node, 2);
-        total = factors::add(program, total, s, node, names);
+    for node in walk::nodes_from(&*program, from) {
         total = total.saturating_add(call_amount(program, node, names));
-        i += 1;
     }
     total
 }
@@ -92,21 +101,22 @@ fn procedure_amount(program: &Program<'_>, i: usize) -> u64
 {
     let o = procedures::outline_at(program, i);
     let names = names_amount(program, o);
-    let head = head_amount(program, o.head, 1);
+    let head = part_amount(program, o.head, 0, 1);
+    let body = part_amount(program, o.body, names, 2);
     names
         .saturating_add(head)
-        .saturating_add(body_amount(program, o.body, names))
+        .saturating_add(body)
+        .saturating_add(calls_amount(program, o.body, names))
 }
 
 // How much there is to show of a sound program, or the largest number if it is more.
+#[tactic(auto, using(crate::proofs::Amounts::weighs_all))]
 pub fn amount(program: &Program<'_>) -> u64
     ensures { (p : syntax.Program) → Holds program.now p → sound p ≡ true → result ≡ min (sizes.amount p) (2 ^ 64 - 1) }
 {
     let mut total: u64 = 1;
-    let mut i = 0;
-    while let Some(f) = procedures::at(program, i) {
-        total = total.saturating_add(procedure_amount(program, i));
-        i = f.next;
+    for f in procedures::from(&*program, 0) {
+        total = total.saturating_add(procedure_amount(program, f.start));
     }
     total
 }

@@ -1,5 +1,6 @@
 -- Gone through as code, a piece of a program meets what is asked of it exactly if it is sound.
 use Rattle.std.proofs.Common.{◌≡◌, suc, ◌^◌, Bool, true, false, not, ◌&&◌, ltb, leb, List, [], ◌∷◌, is_some, is_ok, is_err, Ok, Err, Result, sym, refl, ap, ◌∙◌}
+use Rattle.std.proofs.Math.Bool.{and_assoc}
 use Rattle.lang.specs.Base.{Word}
 use Rattle.sound.specs.Checking.{Env, inside, behind, meets, meets_all}
 use Rattle.lang.specs.Code.{code_expr, code_bool, code_args, code_stmt, code_block}
@@ -9,14 +10,6 @@ use Rattle.walk.specs.Roles.{role, ends}
 use Rattle.lang.specs.Soundness.{find_decl, is_row, sound_expr, sound_bool, sound_stmt, sound_block}
 use Rattle.lang.specs.Syntax.{Expr, num, var, old, binary, index, old_index, BoolExpr, truth, compare, conj, disj, implies, negate, for_all, Stmt, assign, store, branch, loop, check, call, havoc, Block, end, seq, Decl, Program}
 use Rattle.walk.specs.Walking.{first, passed}
-
-pub and_assoc : (a b c : Bool) → ((a && b) && c) ≡ (a && (b && c))
-and_assoc true b c = refl
-and_assoc false b c = refl
-
-pub and_true : (a : Bool) → (a && true) ≡ a
-and_true true = refl
-and_true false = refl
 
 -- the same tests in another order
 and_swap : (a b c : Bool) → (a && (b && c)) ≡ ((b && a) && c)

@@ -3,3 +3,4 @@ pub mod Scopes
 pub mod Passing
 pub mod Naming
 pub mod Wholes
+pub mod Stepping

@@ -1,27 +1,19 @@
--- The names that there are at a place of the code, found through the indices of a scope.
-use Rattle.std.specs.Prelude.{ℕ, List, [], ◌∷◌, ◌++◌}
-use Rattle.sound.specs.Checking.{Env}
+-- The names that there are at a place of the code, found through a scope.
+use Rattle.std.specs.Prelude.{List, ◌++◌, map, length}
 use Rattle.lang.specs.Syntax.{Decl}
-use Rattle.walk.specs.Walking.{rest, word, declared}
-use Rattle.lang.specs.declared.code.Place.{Place}
-use Rattle.lang.specs.declared.program.Program.{Program}
-use Rattle.sound.specs.declared.scope.Counting.{Counting}
-use Rattle.sound.specs.declared.scope.Counting.TheVariants.{No, Once, Twice}
+use Rattle.walk.specs.Listing.{declared_in}
+use Rattle.walk.specs.Nests.{nested}
+use Rattle.walk.specs.declared.name.Name.{Name}
+use Rattle.walk.specs.declared.nest.Nest.{Nest}
+use Rattle.sound.specs.Checking.{Env}
 use Rattle.sound.specs.declared.scope.Scope.{Scope}
 
-abbrev pub depth : Counting → ℕ
-depth No = 0
-depth (Once a) = 1
-depth (Twice a b) = 2
+abbrev pub a_number : Name → Decl
+a_number x = record { name = x.text.now; size = 0 }
 
-abbrev pub a_number : Program → Place → Decl
-a_number held x = record { name = word held x; size = 0 }
+-- the names of `all`, the innermost first
+abbrev pub counters : Nest Name → List Decl
+counters n = map a_number (nested n)
 
--- the innermost first
-abbrev pub counters : Program → Counting → List Decl
-counters held No = []
-counters held (Once a) = a_number held a ∷ []
-counters held (Twice a b) = a_number held b ∷ a_number held a ∷ []
-
-abbrev pub env : Program → Scope → Env
-env held s = record { depth = depth s.counting; names = counters held s.counting ++ (declared (rest held s.params) ++ declared (rest held s.locals)); olds = declared (rest held s.params) }
+abbrev pub env : Scope → Env
+env s = record { depth = length (nested s.counting); names = counters s.counting ++ (declared_in s.params ++ declared_in s.locals); olds = declared_in s.params }

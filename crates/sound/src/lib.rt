@@ -16,96 +16,77 @@ pub mod names;
 pub mod parts;
 pub mod scope;
 
-use crate::scope::{Counting, Scope};
+use crate::scope::Scope;
 use lang::code::Place;
 use lang::program::Program;
-use std::fmt;
+use thiserror::Error;
 use walk;
-use walk::procedures;
+use walk::nest::Nest;
+use walk::{declarations, procedures};
 
-// What a program that is not sound breaks.
-#[derive(Clone, Copy)]
+// What a program that is not sound breaks, as it is told to whoever wrote it.
+#[derive(Clone, Copy, Debug, PartialEq, Eq, Error)]
 pub enum Rule {
-    // the width is 1 to 64
+    #[error("the width is to be 1 to 64")]
     Width,
-    // no two procedures have one name
+    #[error("another procedure has this name")]
     DuplicateProcedure,
-    // a procedure has at most 64 names
+    #[error("a procedure has at most 64 parameters and locals")]
     TooManyNames,
-    // no name is declared twice in a procedure
+    #[error("this name is declared again in the same procedure")]
     DuplicateName,
-    // a row has at most 16 numbers
+    #[error("a row has at most 16 numbers")]
     RowTooLong,
+    #[error("there is no such name here")]
     UnknownName,
-    // a row stands where a number is wanted, or the other way round
+    #[error("a number is wanted here, and this is a row")]
     NotANumber,
+    #[error("a row is wanted here, and this is a number")]
     NotARow,
-    // `old` is of parameters only
+    #[error("`old` is of parameters only")]
     NotAParameter,
-    // an `all` stands in one other at most
+    #[error("an `all` stands in one other `all` at most")]
     NestedTooDeep,
-    // an `all` counts to 16 at most, and to no more than there are numbers
+    #[error("an `all` counts to 16 at most")]
     CountsTooFar,
+    #[error("an `all` counts to no more than there are numbers of the width")]
     CountsPastWidth,
-    // the name of an `all` is no other's
+    #[error("the name of an `all` is to be a new one")]
     NameTaken,
+    #[error("there is no such procedure")]
     UnknownProcedure,
-    // no argument is given twice
+    #[error("this argument is handed over twice")]
     DuplicateArgument,
+    #[error("a call has as many arguments as there are parameters")]
     ArgumentCount,
-    // an argument has the size of its parameter
+    #[error("an argument has the size of its parameter")]
     ArgumentSize,
 }
 
-#[derive(Clone, Copy)]
+impl Rule {
+    // Broken at a place of the text.
+    pub fn at(self, at: Place) -> Unsound
+        ensures { result ≡ record { at = at; rule = self } }
+    {
+        Unsound { at, rule: self }
+    }
+}
+
+#[derive(Clone, Copy, Debug, PartialEq, Eq)]
 pub struct Unsound {
     pub at: Place,
     pub rule: Rule,
-}
-
-impl fmt::Display for Rule {
-    fn fmt<W: fmt::Write>(&self, f: &mut fmt::Formatter<W>) -> fmt::Result {
-        f.write_str(rule_text(*self))
-    }
-}
-
-// A rule, as it is told to whoever broke it.
-fn rule_text(rule: Rule) -> &'static str {
-    match rule {
-        Rule::Width => "the width is to be 1 to 64",
-        Rule::DuplicateProcedure => "another procedure has this name",
-        Rule::TooManyNames => "a procedure has at most 64 parameters and locals",
-        Rule::DuplicateName => "this name is declared again in the same procedure",
-        Rule::RowTooLong => "a row has at most 16 numbers",
-        Rule::UnknownName => "there is no such name here",
-        Rule::NotANumber => "a number is wanted here, and this is a row",
-        Rule::NotARow => "a row is wanted here, and this is a number",
-        Rule::NotAParameter => "`old` is of parameters only",
-        Rule::NestedTooDeep => "an `all` stands in one other `all` at most",
-        Rule::CountsTooFar => "an `all` counts to 16 at most",
-        Rule::CountsPastWidth => "an `all` counts to no more than there are numbers of the width",
-        Rule::NameTaken => "the name of an `all` is to be a new one",
-        Rule::UnknownProcedure => "there is no such procedure",
-        Rule::DuplicateArgument => "this argument is handed over twice",
-        Rule::ArgumentCount => "a call has as many arguments as there are parameters",
-        Rule::ArgumentSize => "an argument has the size of its parameter",
-    }
 }
 
 // The names of the procedures, and what is declared in them.
 fn check_declared(program: &Program<'_>) -> Result<(), Unsound>
     ensures { (qs : List syntax.Proc) → code_of program.now ≡ code_procs qs [] → is_ok result ≡ all_declared qs }
 {
-    let mut i = 0;
-    while let Some(f) = procedures::at(program, i) {
-        if let Some(_) = procedures::find(program, f.next, f.name) {
-            return Err(Unsound {
-                at: f.name,
-                rule: Rule::DuplicateProcedure,
-            });
+    for f in procedures::from(&*program, 0) {
+        if procedures::find_named(program, f.next, f.name.text).is_some() {
+            return Err(Rule::DuplicateProcedure.at(f.name.at));
         }
-        names::check_names(program, f.name, procedures::outline_at(program, i))?;
-        i = f.next;
+        names::check_names(program, f.name.at, procedures::outline_at(program, f.start))?;
     }
     Ok(())
 }
@@ -115,29 +96,26 @@ fn check_procedure(program: &Program<'_>, i: usize) -> Result<(), Unsound>
     ensures { (p : syntax.Program) → Holds program.now p → (q : syntax.Proc) (k : List Instr) → rest program.now i ≡ code_proc q k → is_ok result ≡ well_written p q }
 {
     let o = procedures::outline_at(program, i);
-    let end = walk::len(program);
     let head = Scope {
-        params: o.params,
-        locals: end,
-        counting: Counting::No,
+        program: &*program,
+        params: declarations::from(&*program, o.params),
+        locals: declarations::none(&*program),
+        counting: Nest::Zero,
     };
-    parts::check_part(program, head, o.head)?;
+    parts::check_part(head, o.head)?;
     let body = Scope {
-        params: o.params,
-        locals: o.locals,
-        counting: Counting::No,
+        locals: declarations::from(&*program, o.locals),
+        ..head
     };
-    parts::check_part(program, body, o.body)
+    parts::check_part(body, o.body)
 }
 
 // What the procedures say and do.
 fn check_written(program: &Program<'_>) -> Result<(), Unsound>
     ensures { (p : syntax.Program) → Holds program.now p → is_ok result ≡ all_of (well_written p) p.procs }
 {
-    let mut i = 0;
-    while let Some(f) = procedures::at(program, i) {
-        check_procedure(program, i)?;
-        i = f.next;
+    for f in procedures::from(&*program, 0) {
+        check_procedure(program, f.start)?;
     }
     Ok(())
 }
@@ -145,18 +123,16 @@ fn check_written(program: &Program<'_>) -> Result<(), Unsound>
 fn is_width(width: u64) -> bool
     ensures { result ≡ (nat_le 1 width && nat_le width 64) }
 {
-    1 <= width && width <= 64
+    (1..=64).contains(&width)
 }
 
 // Is the program sound? If not, what it breaks, and where. Declarations come first: with few of them, names are found soon.
 pub fn check(program: &Program<'_>) -> Result<(), Unsound>
     ensures { (p : syntax.Program) → Holds program.now p → is_ok result ≡ sound p }
 {
-    if !is_width(program.width) {
-        return Err(Unsound {
-            at: Place(0),
-            rule: Rule::Width,
-        });
+    if !is_width(program.width.0) {
+        // The width is a text's first number.
+        return Err(Rule::Width.at(Place(0)));
     }
     check_declared(program)?;
     check_written(program)

@@ -3,53 +3,48 @@ ghost use Rattle.std.specs.Prelude.{◌≡◌, ◌++◌, length, is_some, is_ok,
 ghost use Rattle.lang.specs.Base.{all_of};
 ghost use Rattle.sound.specs.Checking.{apart, well_declared};
 ghost use Rattle.lang.specs.Soundness.{find_decl};
-ghost use Rattle.walk.specs.Walking.{rest, word, declared};
+ghost use Rattle.walk.specs.Listing.{declared_in};
+ghost use Rattle.walk.specs.Walking.{rest, declared};
 
 use crate::{Rule, Unsound};
 use lang::code::Place;
 use lang::program::Program;
 use walk;
 use walk::declarations;
+use walk::declarations::Declarations;
+use walk::name::Name;
 use walk::procedures::Outline;
 
-// Is a name declared from an index on, or among the others?
-fn declares(program: &Program<'_>, from: usize, others: usize, name: Place) -> bool
-    ensures { result ≡ is_some (find_decl (declared (rest program.now from) ++ declared (rest program.now others)) (word program.now name)) }
+// Is a name declared among these, or among the others?
+#[tactic(auto, using(crate::proofs::Naming::there, crate::proofs::Naming::some_shape))]
+fn declares(these: Declarations<'_>, others: Declarations<'_>, name: Name<'_>) -> bool
+    ensures { result ≡ is_some (find_decl (declared_in these.entry ++ declared_in others.entry) name.entry.text.now) }
 {
-    declarations::find(program, from, name).is_some()
-        || declarations::find(program, others, name).is_some()
+    these.shape(name.text).is_some() || others.shape(name.text).is_some()
 }
 
-// No name that is declared from an index on comes again behind it, or among the others.
-fn check_apart(program: &Program<'_>, from: usize, others: usize) -> Result<(), Unsound>
-    ensures { is_ok result ≡ apart (declared (rest program.now from)) (declared (rest program.now others)) }
+// None of these names comes again behind it, or among the others.
+#[tactic(auto, using(crate::proofs::Naming::apart_none, crate::proofs::Naming::not_apart, crate::proofs::Naming::apart_so_far))]
+fn check_apart(these: Declarations<'_>, others: Declarations<'_>) -> Result<(), Unsound>
+    ensures { is_ok result ≡ apart (declared_in these.entry) (declared_in others.entry) }
 {
-    let mut i = from;
-    while let Some(d) = declarations::at(program, i) {
-        i += 2;
-        if declares(program, i, others, d.name) {
-            return Err(Unsound {
-                at: d.name,
-                rule: Rule::DuplicateName,
-            });
+    let mut rest = these;
+    while let Some(d) = rest.next() {
+        if declares(rest, others, d.name) {
+            return Err(Rule::DuplicateName.at(d.name.at));
         }
     }
     Ok(())
 }
 
 // No row is longer than 16.
-fn check_rows(program: &Program<'_>, from: usize) -> Result<(), Unsound>
-    ensures { is_ok result ≡ all_of (λ d. nat_le d.size 16) (declared (rest program.now from)) }
+fn check_rows(these: Declarations<'_>) -> Result<(), Unsound>
+    ensures { is_ok result ≡ all_of (λ d. nat_le d.size 16) (declared_in these.entry) }
 {
-    let mut i = from;
-    while let Some(d) = declarations::at(program, i) {
-        if d.size > 16 {
-            return Err(Unsound {
-                at: d.name,
-                rule: Rule::RowTooLong,
-            });
+    for d in these {
+        if d.shape.count() > 16 {
+            return Err(Rule::RowTooLong.at(d.name.at));
         }
-        i += 2;
     }
     Ok(())
 }
@@ -67,13 +62,13 @@ pub fn check_names(program: &Program<'_>, name: Place, o: Outline) -> Result<(),
     ensures { is_ok result ≡ well_declared (declared (rest program.now o.params)) (declared (rest program.now o.locals)) }
 {
     if !are_few(program, o) {
-        return Err(Unsound {
-            at: name,
-            rule: Rule::TooManyNames,
-        });
+        return Err(Rule::TooManyNames.at(name));
     }
-    check_apart(program, o.params, o.locals)?;
-    check_apart(program, o.locals, walk::len(program))?;
-    check_rows(program, o.params)?;
-    check_rows(program, o.locals)
+    let params = declarations::from(&*program, o.params);
+    let locals = declarations::from(&*program, o.locals);
+    let none = declarations::none(&*program);
+    check_apart(params, locals)?;
+    check_apart(locals, none)?;
+    check_rows(params)?;
+    check_rows(locals)
 }

@@ -8,102 +8,52 @@ ghost use Rattle.sound.specs.Scopes.{env};
 ghost use Rattle.lang.specs.Syntax as syntax;
 ghost use Rattle.walk.specs.Walking.{rest};
 
-use crate::scope::{Counting, Scope};
+use crate::scope::Scope;
 use crate::{Rule, Unsound, calls, scope};
 use lang::code::{Node, Place};
 use lang::program::Program;
-use lang::scan;
 use walk;
-use walk::declarations;
-
-// Are there so many numbers of a width?
-fn has_numbers(width: u64, n: u64) -> bool
-    ensures { result ≡ nat_le n (2 ^ width) }
-{
-    width >= 64 || n <= 1 << width
-}
 
 // May an `all` count that far?
 fn limit(program: &Program<'_>, at: Place) -> Result<(), Unsound>
-    ensures { is_ok result ≡ near program.now.width (number_at program.now.text.now at.0) }
+    ensures { is_ok result ≡ near program.now.width.0 (number_at program.now.text.now at.0) }
 {
-    let n = scan::number_at(program.text, at.0);
+    let n = program.number(at);
     if n > 16 {
-        return Err(Unsound {
-            at,
-            rule: Rule::CountsTooFar,
-        });
+        return Err(Rule::CountsTooFar.at(at));
     }
-    if !has_numbers(program.width, n) {
-        return Err(Unsound {
-            at,
-            rule: Rule::CountsPastWidth,
-        });
+    if !program.width.counts(n) {
+        return Err(Rule::CountsPastWidth.at(at));
     }
     Ok(())
 }
 
 // What a node has to meet; `next` is the index behind it.
-fn check_node(program: &Program<'_>, scope: Scope, node: Node, next: usize) -> Result<(), Unsound>
-    ensures { (p : syntax.Program) → Holds program.now p → is_ok result ≡ meets p (env program.now scope) (role (instr program.now.text.now node)) (rest program.now next) }
+fn check_node(scope: Scope<'_>, node: Node, next: usize) -> Result<(), Unsound>
+    ensures { (p : syntax.Program) → Holds scope.entry.program.now p → is_ok result ≡ meets p (env scope.entry) (role (instr scope.entry.program.now.text.now node)) (rest scope.entry.program.now next) }
 {
     match node {
-        Node::Var(x) | Node::Assign(x) => {
-            scope::number(scope::size(program, scope, x), x, Rule::UnknownName)
-        }
-        Node::Index(x) | Node::Store(x) => {
-            scope::row(scope::size(program, scope, x), x, Rule::UnknownName)
-        }
-        Node::Old(x) => {
-            scope::number(
-                declarations::find(program, scope.params, x),
-                x,
-                Rule::NotAParameter,
-            )
-        }
-        Node::OldIndex(x) => {
-            scope::row(
-                declarations::find(program, scope.params, x),
-                x,
-                Rule::NotAParameter,
-            )
-        }
-        Node::Havoc(x) => scope::known(scope::size(program, scope, x), x),
-        Node::All(x) => scope::counter(program, scope, x),
-        Node::Bound(n) => limit(program, n),
-        Node::Call(f) => calls::check_call(program, scope, f, next),
+        Node::Var(x) | Node::Assign(x) => scope::number(scope.shape(x), x, Rule::UnknownName),
+        Node::Index(x) | Node::Store(x) => scope::row(scope.shape(x), x, Rule::UnknownName),
+        Node::Old(x) => scope::number(scope.old_shape(x), x, Rule::NotAParameter),
+        Node::OldIndex(x) => scope::row(scope.old_shape(x), x, Rule::NotAParameter),
+        Node::Havoc(x) => scope::known(scope.shape(x), x),
+        Node::All(x) => scope.counter(x),
+        Node::Bound(n) => limit(scope.program, n),
+        Node::Call(f) => calls::check_call(scope, f, next),
         _ => Ok(()),
     }
 }
 
-// The names behind a node that meets what is asked.
-fn scope_behind(program: &Program<'_>, scope: Scope, node: Node) -> Scope
-    ensures { (p : syntax.Program) (k : List Instr) → true ≡ meets p (env program.now scope) (role (instr program.now.text.now node)) k → env program.now result ≡ behind (env program.now scope) (role (instr program.now.text.now node)) }
-{
-    let counting = match (node, scope.counting) {
-        (Node::All(x), Counting::No) => Counting::Once(x),
-        (Node::All(x), Counting::Once(a)) => Counting::Twice(a, x),
-        (Node::EndAll, Counting::Twice(a, _)) => Counting::Once(a),
-        (Node::EndAll, Counting::Once(_)) => Counting::No,
-        (_, counting) => counting,
-    };
-    Scope {
-        params: scope.params,
-        locals: scope.locals,
-        counting,
-    }
-}
-
 // The part at an index, up to its end.
-pub fn check_part(program: &Program<'_>, scope: Scope, from: usize) -> Result<(), Unsound>
-    ensures { (p : syntax.Program) → Holds program.now p → is_ok result ≡ meets_all p (env program.now scope) (rest program.now from) }
+pub fn check_part(scope: Scope<'_>, from: usize) -> Result<(), Unsound>
+    ensures { (p : syntax.Program) → Holds scope.entry.program.now p → is_ok result ≡ meets_all p (env scope.entry) (rest scope.entry.program.now from) }
 {
     let mut names = scope;
-    let mut i = from;
-    while let Some(node) = walk::going_on(program, i) {
-        i += 1;
-        check_node(program, names, node, i)?;
-        names = scope_behind(program, names, node);
+    let mut rest = walk::nodes_from(scope.program, from);
+    while let Some(node) = rest.next() {
+        check_node(names, node, rest.at)?;
+        names = names.behind(node);
     }
     Ok(())
 }

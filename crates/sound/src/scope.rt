@@ -1,113 +1,124 @@
 // The names that there are at a place of the code.
-ghost use Rattle.std.specs.Prelude.{◌≡◌, false, not, is_some, is_ok, if◌then◌else◌, Some, None, ◌==◌, nat_eq};
+ghost use Rattle.std.specs.Prelude.{◌≡◌, true, List, false, not, is_some, is_ok, if◌then◌else◌, Some, None, ◌==◌, nat_eq};
+ghost use Rattle.std.specs.Option.{option_map};
 ghost use Rattle.lang.specs.Base.{maybe};
-ghost use Rattle.sound.specs.Checking.{fresh};
-ghost use Rattle.sound.specs.Scopes.{counters, env};
+ghost use Rattle.lang.specs.Instr.{Instr, instr};
+ghost use Rattle.lang.specs.Syntax as syntax;
+ghost use Rattle.walk.specs.Roles.{role};
+ghost use Rattle.walk.specs.Shapes.{size_of};
 ghost use Rattle.walk.specs.Walking.{word, size_in};
+ghost use Rattle.sound.specs.Checking.{fresh, meets, behind};
+ghost use Rattle.sound.specs.Scopes.{counters, env};
 
 use crate::{Rule, Unsound};
-use lang::code::Place;
+use lang::code::{Node, Place};
 use lang::program::Program;
-use lang::scan;
-use walk::declarations;
+use walk::declarations::Declarations;
+use walk::name::Name;
+use walk::nest::Nest;
+use walk::shape::Shape;
 
-// The names of the `all` that stand around, the outer one first.
+// The program, the procedure's parameters and locals that are known there, and the names of the `all` that stand around.
 #[derive(Clone, Copy)]
-pub enum Counting {
-    No,
-    Once(Place),
-    Twice(Place, Place),
+pub struct Scope<'p> {
+    pub program: &'p Program<'p>,
+    pub params: Declarations<'p>,
+    pub locals: Declarations<'p>,
+    pub counting: Nest<Name<'p>>,
 }
 
-// Where the declarations of the parameters and of the locals begin.
-#[derive(Clone, Copy)]
-pub struct Scope {
-    pub params: usize,
-    pub locals: usize,
-    pub counting: Counting,
-}
-
-fn is_counter(program: &Program<'_>, counting: Counting, name: Place) -> bool
-    ensures { (if result then Some 0 else None) ≡ size_in (counters program.now counting) (word program.now name) }
-{
-    match counting {
-        Counting::No => false,
-        Counting::Once(a) => scan::same_name(program.text, a.0, name.0),
-        Counting::Twice(a, b) => {
-            scan::same_name(program.text, b.0, name.0) || scan::same_name(program.text, a.0, name.0)
+impl<'p> Scope<'p> {
+    // Is it the name of one of those `all`?
+    fn counts(self, name: &[u8]) -> bool
+        ensures { (if result then Some 0 else None) ≡ size_in (counters self.entry.counting) name.now }
+    {
+        match self.counting {
+            Nest::Zero => false,
+            Nest::One(a) => a.is(name),
+            Nest::Two(a, b) => b.is(name) || a.is(name),
         }
     }
-}
 
-// The size of what a name stands for.
-pub fn size(program: &Program<'_>, scope: Scope, name: Place) -> Option<u64>
-    ensures { result ≡ size_in (env program.now scope).names (word program.now name) }
-{
-    if is_counter(program, scope.counting, name) {
-        return Some(0);
+    // What a name stands for.
+    pub fn shape_of(self, name: &[u8]) -> Option<Shape>
+        ensures { option_map size_of result ≡ size_in (env self.entry).names name.now }
+    {
+        if self.counts(name) {
+            return Some(Shape::Scalar);
+        }
+        // Not or_else: nothing is known of what a closure returns that holds a program.
+        self.params.shape(name).or(self.locals.shape(name))
     }
-    match declarations::find(program, scope.params, name) {
-        Some(size) => Some(size),
-        None => declarations::find(program, scope.locals, name),
+
+    // What the name at a place of the text stands for.
+    pub fn shape(self, name: Place) -> Option<Shape>
+        ensures { option_map size_of result ≡ size_in (env self.entry).names (word self.entry.program.now name) }
+    {
+        self.shape_of(self.program.name(name))
+    }
+
+    // What it stood for as the procedure began.
+    pub fn old_shape(self, name: Place) -> Option<Shape>
+        ensures { option_map size_of result ≡ size_in (env self.entry).olds (word self.entry.program.now name) }
+    {
+        self.params.shape(self.program.name(name))
+    }
+
+    // May an `all` have that name?
+    pub fn counter(self, name: Place) -> Result<(), Unsound>
+        ensures { is_ok result ≡ fresh (env self.entry) (word self.entry.program.now name) }
+    {
+        if let Nest::Two(_, _) = self.counting {
+            return Err(Rule::NestedTooDeep.at(name));
+        }
+        if self.shape(name).is_some() {
+            return Err(Rule::NameTaken.at(name));
+        }
+        Ok(())
+    }
+
+    // The names behind a node that meets what is asked.
+    pub(crate) fn behind(self, node: Node) -> Scope<'p>
+        ensures program { result.program.now ≡ self.entry.program.now }
+        ensures names { (p : syntax.Program) (k : List Instr) → true ≡ meets p (env self.entry) (role (instr self.entry.program.now.text.now node)) k → env result ≡ behind (env self.entry) (role (instr self.entry.program.now.text.now node)) }
+    {
+        let counting = match node {
+            Node::All(x) => {
+                let name = Name::at(self.program, x);
+                self.counting.push(name).unwrap_or(self.counting)
+            }
+            Node::EndAll => self.counting.pop(),
+            _ => self.counting,
+        };
+        Scope { counting, ..self }
     }
 }
 
 // Is it there, and a number?
-pub fn number(size: Option<u64>, at: Place, missing: Rule) -> Result<(), Unsound>
-    ensures { is_ok result ≡ maybe size false (λ n. nat_eq n 0) }
+pub fn number(shape: Option<Shape>, at: Place, missing: Rule) -> Result<(), Unsound>
+    ensures { is_ok result ≡ maybe (option_map size_of shape) false (λ n. nat_eq n 0) }
 {
-    match size {
-        Some(0) => Ok(()),
-        Some(_) => Err(Unsound {
-            at,
-            rule: Rule::NotANumber,
-        }),
-        None => Err(Unsound { at, rule: missing }),
+    match shape {
+        Some(Shape::Scalar) => Ok(()),
+        Some(Shape::Row(_)) => Err(Rule::NotANumber.at(at)),
+        None => Err(missing.at(at)),
     }
 }
 
 // Is it there, and a row?
-pub fn row(size: Option<u64>, at: Place, missing: Rule) -> Result<(), Unsound>
-    ensures { is_ok result ≡ maybe size false (λ n. not (n == 0)) }
+pub fn row(shape: Option<Shape>, at: Place, missing: Rule) -> Result<(), Unsound>
+    ensures { is_ok result ≡ maybe (option_map size_of shape) false (λ n. not (n == 0)) }
 {
-    match size {
-        Some(0) => Err(Unsound {
-            at,
-            rule: Rule::NotARow,
-        }),
-        Some(_) => Ok(()),
-        None => Err(Unsound { at, rule: missing }),
+    match shape {
+        Some(Shape::Row(_)) => Ok(()),
+        Some(Shape::Scalar) => Err(Rule::NotARow.at(at)),
+        None => Err(missing.at(at)),
     }
 }
 
 // Is it there?
-pub fn known(size: Option<u64>, at: Place) -> Result<(), Unsound>
-    ensures { is_ok result ≡ is_some size }
+pub fn known(shape: Option<Shape>, at: Place) -> Result<(), Unsound>
+    ensures { is_ok result ≡ is_some shape }
 {
-    match size {
-        Some(_) => Ok(()),
-        None => Err(Unsound {
-            at,
-            rule: Rule::UnknownName,
-        }),
-    }
-}
-
-// May an `all` have that name?
-pub fn counter(program: &Program<'_>, scope: Scope, name: Place) -> Result<(), Unsound>
-    ensures { is_ok result ≡ fresh (env program.now scope) (word program.now name) }
-{
-    if let Counting::Twice(_, _) = scope.counting {
-        return Err(Unsound {
-            at: name,
-            rule: Rule::NestedTooDeep,
-        });
-    }
-    if size(program, scope, name).is_some() {
-        return Err(Unsound {
-            at: name,
-            rule: Rule::NameTaken,
-        });
-    }
-    Ok(())
+    shape.map(|_| ()).ok_or(Rule::UnknownName.at(at))
 }

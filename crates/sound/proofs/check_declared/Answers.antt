@@ -1,30 +1,42 @@
-use Rattle.std.proofs.Common.{◌∙◌}
+use Rattle.std.proofs.Common.{[], ◌∙◌}
+use Rattle.lang.specs.Code.{code_procs}
+use Rattle.walk.proofs.Listing.{proc_given, proc_begun, procs_on}
 use Rattle.sound.proofs.Checking.{handed_on}
 use Rattle.sound.proofs.Wholes.{all_seen, seen_again, ill_declared, declared_so_far}
 use Rattle.sound.proofs.check_declared.Goals as goal
 
-pub returns-in-Some-find : goal.returns-in-Some-find
-returns-in-Some-find c qs e =
-    let left = c.loop-f.invariant qs e in
-    let at = c.in-Some.ensures.finds left.procs left.code in
-    seen_again _ _ _ left _ at (c.in-Some-find.ensures at.others at.behind).found
+pub returns-then-is_some : goal.returns-then-is_some
+returns-then-is_some c qs e =
+    let held = c.args.program.now in
+    let inv = c.loop-f.invariant in
+    let this = proc_given held c.loop-f.f-iterator c.next.new.self inv.2 c.in-Some.f c.in-Some.ensures.steps (inv.3 qs e).procs (inv.3 qs e).code in
+    seen_again held c.loop-f.f-iterator c.next.new.self inv.2 _ (inv.3 qs e) c.in-Some.f c.in-Some.ensures.steps this c.find_named.result (c.find_named.ensures this.others this.behind) c.if-is_some.ensures
 
 pub returns-in_err-check_names : goal.returns-in_err-check_names
 returns-in_err-check_names c qs e =
-    let left = c.loop-f.invariant qs e in
-    let at = c.in-Some.ensures.finds left.procs left.code in
-    let laid = c.outline_at.ensures at.this _ at.here in
+    let held = c.args.program.now in
+    let inv = c.loop-f.invariant in
+    let g = c.in-Some.ensures.steps in
+    let this = proc_given held c.loop-f.f-iterator c.next.new.self inv.2 c.in-Some.f g (inv.3 qs e).procs (inv.3 qs e).code in
+    let laid = c.outline_at.ensures this.this (code_procs this.others []) (proc_begun held c.loop-f.f-iterator c.next.new.self inv.2 c.in-Some.f g ∙ this.here) in
     handed_on c.from_residual.result c.from_residual.ensures.0
-    ∙ ill_declared _ _ _ left _ at _ _ laid (c.in_default-find.ensures at.others at.behind) c.in_err-check_names.ensures
+    ∙ ill_declared held c.loop-f.f-iterator c.next.new.self inv.2 _ (inv.3 qs e) c.in-Some.f g this c.find_named.result (c.find_named.ensures this.others this.behind) c.outline_at.result laid c.if-is_some.ensures c.in_err-check_names.ensures
 
 pub loop-f-preserved : goal.loop-f-preserved
-loop-f-preserved c qs e =
-    let left = c.loop-f.invariant qs e in
-    let at = c.in-Some.ensures.finds left.procs left.code in
-    let laid = c.outline_at.ensures at.this _ at.here in
-    declared_so_far _ _ _ left _ at _ _ laid (c.in_default-find.ensures at.others at.behind) c.in_ok-check_names.ensures
+loop-f-preserved c =
+    let held = c.args.program.now in
+    let inv = c.loop-f.invariant in
+    let g = c.in-Some.ensures.steps in (
+      tt,
+      tt,
+      procs_on held c.loop-f.f-iterator c.next.new.self inv.2 c.in-Some.f g,
+      λ qs e.
+          let this = proc_given held c.loop-f.f-iterator c.next.new.self inv.2 c.in-Some.f g (inv.3 qs e).procs (inv.3 qs e).code in
+          let laid = c.outline_at.ensures this.this (code_procs this.others []) (proc_begun held c.loop-f.f-iterator c.next.new.self inv.2 c.in-Some.f g ∙ this.here) in
+          declared_so_far held c.loop-f.f-iterator c.next.new.self inv.2 _ (inv.3 qs e) c.in-Some.f g this c.find_named.result (c.find_named.ensures this.others this.behind) c.outline_at.result laid c.if-is_some.ensures c.in_ok-check_names.ensures,
+    )
 
 pub returns : goal.returns
 returns c qs e =
-    let left = c.loop-f.invariant qs e in
-    all_seen c.args.program.now _ c.loop-f.i left (c.in_default.ensures.finds left.procs left.code)
+    let inv = c.loop-f.invariant in
+    all_seen c.args.program.now c.loop-f.f-iterator c.next.new.self inv.2 _ (inv.3 qs e) c.in-None.ensures.steps

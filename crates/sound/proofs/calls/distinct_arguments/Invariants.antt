@@ -1,11 +1,10 @@
-use Rattle.std.proofs.Common.{◌≡◌, ◌-◌, length}
+use Rattle.std.proofs.Common.{◌≡◌, length}
 use Rattle.lang.specs.Base.{distinct}
-use Rattle.lang.specs.Holding.{code_of}
-use Rattle.walk.specs.Walking.{rest, passed}
+use Rattle.walk.specs.Listing.{passed_in}
 use Rattle.sound.proofs.calls.distinct_arguments.Given as goal
 
 abbrev pub invariant-loop-x : goal.invariant-loop-x
-invariant-loop-x l = distinct (passed (rest l.program l.i)) ≡ distinct (passed (rest l.program l.from))
+invariant-loop-x l = distinct (passed_in l.rest) ≡ distinct (passed_in l.arguments)
 
 abbrev pub decreases-loop-x : goal.decreases-loop-x
-decreases-loop-x l = length (code_of l.program) - l.i
+decreases-loop-x l = length (passed_in l.rest)

@@ -1,12 +1,10 @@
-use Rattle.std.proofs.Common.{◌≡◌, ◌-◌, length}
-use Rattle.lang.specs.Holding.{code_of}
-use Rattle.sound.specs.Scopes.{env}
+use Rattle.std.proofs.Common.{◌≡◌}
 use Rattle.lang.specs.Soundness.{same_sizes}
-use Rattle.walk.specs.Walking.{rest, declared, passed}
+use Rattle.walk.specs.Listing.{declared_in, passed_in}
+use Rattle.sound.specs.Scopes.{env}
 use Rattle.sound.proofs.calls.same_sizes.Given as goal
 
 abbrev pub invariant-loop-x : goal.invariant-loop-x
-invariant-loop-x l = same_sizes (env l.program l.scope).names (declared (rest l.program l.j)) (passed (rest l.program l.i)) ≡ same_sizes (env l.program l.scope).names (declared (rest l.program l.params)) (passed (rest l.program l.from))
-
-abbrev pub decreases-loop-x : goal.decreases-loop-x
-decreases-loop-x l = length (code_of l.program) - l.i
+invariant-loop-x l =
+    (goal.iterator-loop-x).can_next l.x-iterator × (goal.iterator-loop-x).is_finite l.x-iterator
+    × (same_sizes (env l.scope).names (declared_in l.wanted) (passed_in l.x-iterator) ≡ same_sizes (env l.scope).names (declared_in l.params) (passed_in l.fn.arguments))

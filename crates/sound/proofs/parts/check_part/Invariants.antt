@@ -7,7 +7,9 @@ use Rattle.walk.specs.Walking.{rest}
 use Rattle.sound.proofs.parts.check_part.Given as goal
 
 abbrev pub invariant-loop-node : goal.invariant-loop-node
-invariant-loop-node l = (p : syntax.Program) → Holds l.program p → meets_all p (env l.program l.names) (rest l.program l.i) ≡ meets_all p (env l.program l.initial.names) (rest l.program l.from)
+invariant-loop-node l =
+    (l.rest.program.now ≡ l.names.program.now) × (l.names.program.now ≡ l.scope.program.now)
+    × ((p : syntax.Program) → Holds l.scope.program.now p → meets_all p (env l.names) (rest l.names.program.now l.rest.at) ≡ meets_all p (env l.scope) (rest l.scope.program.now l.from))
 
 abbrev pub decreases-loop-node : goal.decreases-loop-node
-decreases-loop-node l = length (code_of l.program) - l.i
+decreases-loop-node l = length (code_of l.rest.program.now) - l.rest.at
