@@ -9,7 +9,8 @@ use Rattle.lang.specs.Syntax.{Expr, num, var, old, binary, index, old_index, Boo
 use Rattle.walk.specs.Walking.{first}
 use Rattle.eval.specs.Kinds.{operand}
 use Rattle.eval.specs.Ops as ops
-use Rattle.eval.specs.Ops.{Op, Stacks, code_ops, ops_expr, ops_bool, nesting, ops_nesting, push_number, push_truth, apply_all}
+use Rattle.eval.specs.Ops.{Op, code_ops, ops_expr, ops_bool, nesting, ops_nesting, push_number, push_truth, apply_all}
+use Rattle.eval.specs.declared.stacks.Stacks.{Stacks}
 
 -- their code
 pub code_ops_expr : (e : Expr) (os : List Op) (k : List Instr) → code_ops (ops_expr e os) k ≡ code_expr e (code_ops os k)

@@ -1,13 +1,16 @@
 -- States as rows of numbers: reading a name, and writing it.
 use borrow.Rule.Slice.PartMut.{put_mid}
-use Rattle.std.proofs.Common.{◌≡◌, ℕ, ◌+◌, ◌-◌, ◌<◌, ◌≤◌, true, false, List, [], ◌∷◌, ◌++◌, length, take, drop, set, replicate, Some, None, sym, refl, ap, ◌∙◌, inl, inr, append_assoc, add_assoc, zero-add, arith, take-add}
+use Rattle.std.proofs.Common.{◌≡◌, ℕ, ◌+◌, ◌-◌, ◌<◌, ◌≤◌, List, [], ◌∷◌, ◌++◌, length, take, drop, set, replicate, Some, None, sym, refl, ap, ◌∙◌, inl, inr, append_assoc, add_assoc, zero-add, arith, take-add}
 use Rattle.std.proofs.lemmas.List.{length-drop, length-take-le, length-set, set-append_left, set-append_right, take_at, drop_at, take-append-le, drop-append-le, drop-drop, take-append-drop, take-replicate, drop-replicate}
 use Rattle.std.proofs.lemmas.Bool.{cases_Bool}
+use Rattle.std.specs.List.{fold, sum_by}
+use Rattle.std.specs.Option.{option_or}
 use Rattle.lang.specs.Base.{◌>>=◌, Word, same}
 use Rattle.lang.specs.Meaning.{count, values_of, write, zeros}
 use Rattle.lang.specs.Syntax.{Decl}
-use Rattle.walk.proofs.Finding.{or_else}
-use Rattle.eval.specs.States.{counts, state_of, slot_of}
+use Rattle.lang.specs.declared.program.Program.{Program}
+use Rattle.walk.specs.Walking.{rest, declared}
+use Rattle.eval.specs.States.{counts, state_of, slot_of, both}
 use Rattle.eval.specs.declared.names.Slot.{Slot}
 
 -- how many numbers there are
@@ -24,37 +27,34 @@ unfolding counts
 counts_append [] es = sym (zero-add (counts es))
 counts_append (d ∷ ds) es = rw (counts_append ds es) (sym (add_assoc (count d) (counts ds) (counts es)))
 
+counts_fold : (ds : List Decl) (n : ℕ) → fold (λ a d. a + count d) n ds ≡ n + counts ds
+unfolding counts
+counts_fold [] n = omega arith
+counts_fold (d ∷ ds) n = counts_fold ds (n + count d) ∙ omega arith
+
+pub counts_sum : (ds : List Decl) → sum_by count ds ≡ counts ds
+counts_sum ds = counts_fold ds 0 ∙ zero-add (counts ds)
+
 -- where a name stands
-module _ (x : Word) where
-  pub slot_none : {ds : List Decl} (n : ℕ) → ds ≡ [] → None ≡ slot_of ds n x
-  unfolding slot_of
-  slot_none n e = rw e
+pub slot_append : (ds es : List Decl) (n : ℕ) (x : Word) → slot_of (ds ++ es) n x ≡ option_or (slot_of ds n x) (slot_of es (n + counts ds) x)
+unfolding slot_of counts
+slot_append [] es n x = let e : n + 0 ≡ n = omega arith in rw e
+slot_append (d ∷ ds) es n x =
+    let e : n + (count d + counts ds) ≡ n + count d + counts ds = omega arith in
+    elim (cases_Bool (same d.name x)) [
+      | inl t ↦ rw t
+      | inr t ↦ rw (t, e) (slot_append ds es (n + count d) x)
+    ]
 
-  pub slot_here : {ds es : List Decl} {d : Decl} (n : ℕ) → ds ≡ d ∷ es → true ≡ same d.name x → Some (record { start = n; size = count d }) ≡ slot_of ds n x
-  unfolding slot_of
-  slot_here n e t = rw (e, ← t)
+-- of what is declared from two indices on
+module _ (held : Program) (params locals : ℕ) where
+  pub counts_both : counts (both held params locals) ≡ counts (declared (rest held params)) + counts (declared (rest held locals))
+  counts_both = counts_append (declared (rest held params)) (declared (rest held locals))
 
-  pub slot_behind : {ds es : List Decl} {d : Decl} (n : ℕ) → ds ≡ d ∷ es → false ≡ same d.name x → slot_of es (n + count d) x ≡ slot_of ds n x
-  unfolding slot_of
-  slot_behind n e t = rw (e, ← t)
-
-  pub slot_append : (ds es : List Decl) (n : ℕ) → slot_of (ds ++ es) n x ≡ or_else (slot_of ds n x) (slot_of es (n + counts ds) x)
-  unfolding slot_of counts
-  slot_append [] es n = let e : n + 0 ≡ n = omega arith in rw e
-  slot_append (d ∷ ds) es n =
-      let e : n + (count d + counts ds) ≡ n + count d + counts ds = omega arith in
-      elim (cases_Bool (same d.name x)) [
-        | inl t ↦ rw t
-        | inr t ↦ rw (t, e) (slot_append ds es (n + count d))
-      ]
-
-  pub slot_left : (ds es : List Decl) {s : Slot} → Some s ≡ slot_of ds 0 x → Some s ≡ slot_of (ds ++ es) 0 x
-  slot_left ds es e = sym (slot_append ds es 0 ∙ rw (← e) refl)
-
-  pub slot_right : (ds es : List Decl) → None ≡ slot_of ds 0 x → (n : ℕ) → n ≡ counts ds → slot_of es n x ≡ slot_of (ds ++ es) 0 x
-  slot_right ds es e n f =
-      let start : 0 + counts ds ≡ n = omega arith in
-      sym (slot_append ds es 0 ∙ rw (← e, start) refl)
+  pub slot_both : (x : Word) → slot_of (both held params locals) 0 x ≡ option_or (slot_of (declared (rest held params)) 0 x) (slot_of (declared (rest held locals)) (counts (declared (rest held params))) x)
+  slot_both x =
+      let start : 0 + counts (declared (rest held params)) ≡ counts (declared (rest held params)) = omega arith in
+      slot_append (declared (rest held params)) (declared (rest held locals)) 0 x ∙ rw start
 
 -- a slot lies within the numbers
 pub record Within (n m : ℕ) (s : Slot) : Type 0 where
@@ -92,11 +92,6 @@ values_by_slot ds ns x = values_from ds 0 ns x
 module _ (ds : List Decl) (ns : List ℕ) (x : Word) where
   pub values_at : (s : Slot) → slot_of ds 0 x ≡ Some s → values_of (state_of ds ns) x ≡ Some (take s.size (drop s.start ns))
   values_at s e = values_by_slot ds ns x ∙ rw e
-
-  pub values_between : (s : Slot) → Some s ≡ slot_of ds 0 x → Some (take (s.start + s.size - s.start) (drop s.start ns)) ≡ values_of (state_of ds ns) x
-  values_between s e =
-      let size : s.start + s.size - s.start ≡ s.size = omega arith in
-      rw size (sym (values_at s (sym e)))
 
   pub values_missing : slot_of ds 0 x ≡ None → values_of (state_of ds ns) x ≡ None
   values_missing e = values_by_slot ds ns x ∙ rw e

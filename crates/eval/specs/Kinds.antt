@@ -84,10 +84,3 @@ limit_of (counter x) = 0
 limit_of (limit n) = n
 limit_of (length n) = 0
 limit_of other = 0
-
-abbrev pub length_of : Kind → ℕ
-length_of (plain op) = 0
-length_of (counter x) = 0
-length_of (limit n) = 0
-length_of (length n) = n
-length_of other = 0

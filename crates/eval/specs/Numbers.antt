@@ -15,3 +15,7 @@ number_of o = o >>= λ vs. when (length vs == 1) (slice_get vs 0)
 -- the number at a place
 abbrev pub element_of : Option (List ℕ) → ℕ → Option ℕ
 element_of o i = o >>= λ vs. slice_get vs i
+
+-- the same at a place that may be missing
+abbrev pub element_in : Option (List ℕ) → Option ℕ → Option ℕ
+element_in o i = i >>= element_of o

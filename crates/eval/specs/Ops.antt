@@ -1,6 +1,6 @@
 -- Expressions as rows of operations on two stacks, of numbers and of truths. What fails is none, on a stack too: whether it matters is
 -- decided by what is done with it.
-use Rattle.std.specs.Prelude.{ℕ, suc, max, Bool, true, false, cond, not, List, [], ◌∷◌, length, Some, None, Option}
+use Rattle.std.specs.Prelude.{ℕ, suc, max, Bool, true, false, cond, not, List, [], ◌∷◌, length, Some, Option}
 use Rattle.lang.specs.Base.{◌>>=◌, Word}
 use Rattle.lang.specs.Code.{code_bool}
 use Rattle.lang.specs.Instr as instr
@@ -10,6 +10,8 @@ use Rattle.lang.specs.Syntax as syntax
 use Rattle.lang.specs.Syntax.{Expr, BoolExpr}
 use Rattle.lang.specs.declared.syntax.ArithOp.{ArithOp}
 use Rattle.lang.specs.declared.syntax.Comparison.{Comparison}
+use Rattle.eval.specs.Stacking.{top, under}
+use Rattle.eval.specs.declared.stacks.Stacks.{Stacks}
 
 -- an `all` is one operation, with all that it counts through
 pub data Op : Type 0 where
@@ -97,21 +99,8 @@ unfoldable pub ops_nesting : List Op → ℕ
 ops_nesting [] = 0
 ops_nesting (o ∷ os) = max (op_nesting o) (ops_nesting os)
 
--- the top first
-pub record Stacks : Type 0 where
-  pub numbers : List (Option ℕ)
-  pub truths : List (Option Bool)
-
 abbrev pub empty : Stacks
 empty = record { numbers = []; truths = [] }
-
-abbrev pub top : {A : Type 0} → List (Option A) → Option A
-top [] = None
-top (x ∷ xs) = x
-
-abbrev pub under : {A : Type 0} → List (Option A) → List (Option A)
-under [] = []
-under (x ∷ xs) = xs
 
 abbrev pub push_number : Option ℕ → Stacks → Stacks
 push_number n st = record { numbers = n ∷ st.numbers; truths = st.truths }

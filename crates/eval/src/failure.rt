@@ -1,17 +1,27 @@
 // How evaluation fails.
-use lang::code::Place;
-use std::fmt;
+ghost use Rattle.std.specs.Prelude.{◌≡◌};
 
-#[derive(Clone, Copy, Debug)]
+use lang::code::Place;
+use thiserror::Error;
+
+#[derive(Clone, Copy, Debug, PartialEq, Eq, Error)]
 pub enum Reason {
+    #[error("the written number is too large")]
     NumberTooLarge,
+    #[error("the sum is too large")]
     SumTooLarge,
+    #[error("the difference is below 0")]
     DifferenceBelowZero,
+    #[error("the product is too large")]
     ProductTooLarge,
+    #[error("division by 0")]
     DivisionByZero,
+    #[error("the place is outside the row")]
     OutsideRow,
+    #[error("the check is not so")]
     CheckFailed,
     // no such name or operand; does not happen in a sound program
+    #[error("there is no such name")]
     Undefined,
 }
 
@@ -22,21 +32,10 @@ pub struct Failure {
     pub reason: Reason,
 }
 
-impl fmt::Display for Reason {
-    fn fmt<W: fmt::Write>(&self, f: &mut fmt::Formatter<W>) -> fmt::Result {
-        f.write_str(reason_text(*self))
-    }
-}
-
-fn reason_text(reason: Reason) -> &'static str {
-    match reason {
-        Reason::NumberTooLarge => "the written number is too large",
-        Reason::SumTooLarge => "the sum is too large",
-        Reason::DifferenceBelowZero => "the difference is below 0",
-        Reason::ProductTooLarge => "the product is too large",
-        Reason::DivisionByZero => "division by 0",
-        Reason::OutsideRow => "the place is outside the row",
-        Reason::CheckFailed => "the check is not so",
-        Reason::Undefined => "there is no such name",
+impl Reason {
+    pub fn at(self, at: Place) -> Failure
+        ensures { result ≡ record { at = at; reason = self } }
+    {
+        Failure { at, reason: self }
     }
 }

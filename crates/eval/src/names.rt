@@ -1,16 +1,12 @@
 // The names that an expression speaks of, with their numbers.
-ghost use Rattle.std.specs.Prelude.{◌≡◌, ◌+◌, ◌^◌, ◌<◌, if◌then◌else◌, nat_eq};
-ghost use Rattle.walk.specs.Walking.{rest, word, declared};
-ghost use Rattle.eval.specs.States.{counts, slot_of};
-ghost use Rattle.eval.specs.Naming.{both};
+ghost use Rattle.std.specs.Prelude.{◌≡◌, ◌+◌, ◌^◌, ◌<◌, ◌≤◌, length, take, drop};
+ghost use Rattle.walk.specs.Walking.{rest, declared};
+ghost use Rattle.eval.specs.States.{counts, slot_of, both, Sized};
 
-use lang::code::Place;
 use lang::program::Program;
-use lang::scan;
 use walk::declarations;
-use walk::declarations::Declaration;
 
-// Where the numbers of a name stand.
+// Where the numbers of a name stand. A start and a size, as in the definitions, and no range.
 #[derive(Clone, Copy)]
 pub struct Slot {
     pub start: usize,
@@ -25,13 +21,41 @@ pub struct Names<'a> {
     pub locals: usize,
     pub now: &'a [u64],
     pub old: &'a [u64],
+    pub ghost sized: { Sized program.now params locals now.now old.now },
 }
 
-// How many numbers a name has.
-fn count(d: Declaration) -> usize
-    ensures { result ≡ (if nat_eq d.size 0 then 1 else d.size) }
-{
-    if d.size == 0 { 1 } else { d.size as usize }
+impl Slot {
+    // Its numbers, among those of all names.
+    pub fn part(self, numbers: &[u64]) -> &[u64]
+        requires { self.start + self.size ≤ length numbers.now }
+        ensures { result.now ≡ take self.size (drop self.start numbers.now) }
+    {
+        &numbers[self.start..self.start + self.size]
+    }
+}
+
+impl<'a> Names<'a> {
+    ghost use Rattle.std.specs.Option.{option_map};
+    ghost use Rattle.lang.specs.Meaning.{values_of};
+    ghost use Rattle.eval.specs.Naming.{state_now, state_old};
+
+    // The numbers of a name, if it is declared.
+    #[tactic(auto, using(crate::proofs::States::slot_fits, crate::proofs::States::values_at, crate::proofs::States::values_missing))]
+    pub(crate) fn values_now(self, name: &[u8]) -> Option<&'a [u64]>
+        ensures { option_map (λ x. x.now) result ≡ values_of (state_now self.entry) name.now }
+    {
+        let slot = slot_of(self.program, self.params, self.locals, name)?;
+        Some(slot.part(self.now))
+    }
+
+    // The same of the state with which the procedure began.
+    #[tactic(auto, using(crate::proofs::States::slot_fits, crate::proofs::States::values_at, crate::proofs::States::values_missing))]
+    pub(crate) fn values_old(self, name: &[u8]) -> Option<&'a [u64]>
+        ensures { option_map (λ x. x.now) result ≡ values_of (state_old self.entry) name.now }
+    {
+        let slot = slot_from(self.program, self.params, 0, name)?;
+        Some(slot.part(self.old))
+    }
 }
 
 // How many numbers the names have together that are declared from an index on.
@@ -39,38 +63,34 @@ pub fn total(program: &Program<'_>, from: usize) -> usize
     requires { counts (declared (rest program.now from)) < 2 ^ 64 }
     ensures { result ≡ counts (declared (rest program.now from)) }
 {
-    let mut i = from;
-    let mut n = 0;
-    while let Some(d) = declarations::at(program, i) {
-        n += count(d);
-        i += 2;
-    }
-    n
+    declarations::from(&*program, from)
+        .map(|d| d.shape.count())
+        .sum()
 }
 
 // The numbers of a name that is declared from an index on, where those of the first declaration begin at `start`.
-fn slot_from(program: &Program<'_>, from: usize, start: usize, name: Place) -> Option<Slot>
+#[tactic(auto, unfolding(crate::specs::States::counts, crate::specs::States::slot_of))]
+fn slot_from(program: &Program<'_>, from: usize, start: usize, name: &[u8]) -> Option<Slot>
     requires { start + counts (declared (rest program.now from)) < 2 ^ 64 }
-    ensures { result ≡ slot_of (declared (rest program.now from)) start (word program.now name) }
+    ensures { result ≡ slot_of (declared (rest program.now from)) start name.now }
 {
-    let mut i = from;
     let mut n = start;
-    while let Some(d) = declarations::at(program, i) {
-        let size = count(d);
-        if scan::same_name(program.text, d.name.0, name.0) {
+    for d in declarations::from(&*program, from) {
+        let size = d.shape.count();
+        if d.name.is(name) {
             return Some(Slot { start: n, size });
         }
         n += size;
-        i += 2;
     }
     None
 }
 
 // The numbers of a name that is declared from one of two indices on.
-pub fn slot_of(program: &Program<'_>, params: usize, locals: usize, name: Place) -> Option<Slot>
+pub fn slot_of(program: &Program<'_>, params: usize, locals: usize, name: &[u8]) -> Option<Slot>
     requires { counts (both program.now params locals) < 2 ^ 64 }
-    ensures { result ≡ slot_of (both program.now params locals) 0 (word program.now name) }
+    ensures { result ≡ slot_of (both program.now params locals) 0 name.now }
 {
+    // A match, since nothing is known of what a closure returns that holds a program.
     match slot_from(program, params, 0, name) {
         Some(slot) => Some(slot),
         None => slot_from(program, locals, total(program, params), name),

@@ -4,30 +4,40 @@ ghost use Rattle.lang.specs.Instr.{instr};
 ghost use Rattle.lang.specs.declared.program.Program as lent;
 ghost use Rattle.walk.specs.Walking.{first, rest, word_of};
 ghost use Rattle.eval.specs.Evaluating.{OperandAt, AllEnd};
-ghost use Rattle.eval.specs.Kinds.{kind, operand, counter_name, limit_of, length_of};
+ghost use Rattle.eval.specs.Kinds.{kind, operand, counter_name, limit_of};
 
 use lang::code::{Node, Place};
 use lang::program::Program;
-use lang::scan;
 use walk;
 
 fn is_operand(node: Node) -> bool
     ensures { (text : List ℕ) → result ≡ operand (instr text node) }
 {
-    match node {
-        Node::Num(_) | Node::Var(_) | Node::Old(_) | Node::Binary(_, _) => true,
-        Node::Index(_) | Node::OldIndex(_) | Node::True(_) | Node::Compare(_, _) => true,
-        Node::And(_) | Node::Or(_) | Node::Implies(_) | Node::Not(_) | Node::All(_) => true,
-        _ => false,
-    }
+    matches!(
+        node,
+        Node::Num(_)
+            | Node::Var(_)
+            | Node::Old(_)
+            | Node::Binary(_, _)
+            | Node::Index(_)
+            | Node::OldIndex(_)
+            | Node::True(_)
+            | Node::Compare(_, _)
+            | Node::And(_)
+            | Node::Or(_)
+            | Node::Implies(_)
+            | Node::Not(_)
+            | Node::All(_)
+    )
 }
 
 // The node at an index, if an operation begins with it.
+#[tactic(auto, using(crate::proofs::Walking::operand_if))]
 pub fn at(program: &Program<'_>, i: usize) -> Option<Node>
     ensures { MatchOption result (operand (first (rest program.now i)) ≡ false) (λ n. OperandAt program.now i n) }
 {
     let node = walk::at(program, i);
-    if is_operand(node) { Some(node) } else { None }
+    is_operand(node).then_some(node)
 }
 
 // The name of an `all` that begins with a node.
@@ -45,26 +55,16 @@ pub fn limit(program: &Program<'_>, i: usize) -> u64
     ensures { result ≡ limit_of (kind (first (rest program.now i))) }
 {
     match walk::at(program, i) {
-        Node::Bound(n) => scan::number_at(program.text, n.0),
-        _ => 0,
-    }
-}
-
-fn length(program: &Program<'_>, i: usize) -> usize
-    ensures { result ≡ length_of (kind (first (rest program.now i))) }
-{
-    match walk::at(program, i) {
-        Node::Scope(n) => n,
+        Node::Bound(n) => program.number(n),
         _ => 0,
     }
 }
 
 // The index behind an `all` whose limit stands at an index.
+#[tactic(auto, using(crate::proofs::Walking::all_ends))]
 pub fn all_end(program: &Program<'_>, i: usize) -> usize
     ensures { AllEnd program.now i result }
 {
-    let size = length(program, walk::skip(program, i, 1));
-    let body = walk::skip(program, i, 2);
-    let end = walk::skip(program, body, size);
+    let end = walk::part_end(program, walk::skip(program, i, 1));
     walk::skip(program, end, 1)
 }

@@ -7,19 +7,18 @@ use crate::arith;
 use crate::failure::Failure;
 use lang::code::Place;
 use lang::syntax::{ArithOp, Comparison};
+use lang::width::Width;
 
 pub fn compute(
-    width: u64,
+    width: Width,
     op: ArithOp,
     x: Result<u64, Failure>,
     y: Result<u64, Failure>,
     at: Place,
 ) -> Result<u64, Failure>
-    ensures { width ≤ 64 → result_ok result ≡ computed width op (result_ok x) (result_ok y) }
+    ensures { width.0 ≤ 64 → result_ok result ≡ computed width.0 op (result_ok x) (result_ok y) }
 {
-    let a = x?;
-    let b = y?;
-    arith::compute(width, op, a, b, at)
+    arith::compute(width, op, x?, y?, at)
 }
 
 pub fn compare(
@@ -29,9 +28,7 @@ pub fn compare(
 ) -> Result<bool, Failure>
     ensures { result_ok result ≡ compared comparison (result_ok x) (result_ok y) }
 {
-    let a = x?;
-    let b = y?;
-    Ok(arith::compares(comparison, a, b))
+    Ok(arith::compares(comparison, x?, y?))
 }
 
 pub fn and(x: Result<bool, Failure>, y: Result<bool, Failure>) -> Result<bool, Failure>
@@ -55,6 +52,5 @@ pub fn implies(x: Result<bool, Failure>, y: Result<bool, Failure>) -> Result<boo
 pub fn not(x: Result<bool, Failure>) -> Result<bool, Failure>
     ensures { result_ok result ≡ negated (result_ok x) }
 {
-    let a = x?;
-    Ok(!a)
+    Ok(!x?)
 }

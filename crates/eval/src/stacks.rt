@@ -1,96 +1,118 @@
 // Two stacks, of numbers and of truths. What failed stands on a stack too: whether it matters is decided by what is done with it.
-ghost use Rattle.std.specs.Prelude.{◌≡◌, OnOk};
+ghost use Rattle.std.specs.Prelude.{◌≡◌, [], ◌∷◌, OnOk};
 ghost use Rattle.std.specs.Result.{result_ok};
-ghost use Rattle.eval.specs.Ops.{empty, top, under, push_number, push_truth, pop_number, pop_truth};
-ghost use Rattle.eval.specs.Stacking.{stacks};
+ghost use Rattle.eval.specs.Ops.{empty};
+ghost use Rattle.eval.specs.Stacking.{top, under, Merged};
 
 use crate::failure::{Failure, Reason};
 use lang::code::Place;
 use std::alloc::{AllocError, Global};
+use std::marker::Model;
 
+// Clauses see each entry, the top first; what failed is none.
 #[derive(Drop)]
-pub struct Stacks {
-    numbers: Vec<Result<u64, Failure>>,
-    truths: Vec<Result<bool, Failure>>,
+pub struct Stack<T> {
+    items: Vec<Result<T, Failure>>,
 }
 
-fn missing(at: Place) -> Failure {
-    Failure {
-        at,
-        reason: Reason::Undefined,
-    }
+impl<T> Model for Stack<T> {
+    ghost use Rattle.std.specs.Prelude.{List, Option};
+    ghost use Rattle.eval.specs.Stacking.{stacked};
+
+    ghost Value = { List (Option T) };
+
+    ghost view = { λ s. stacked s.items.items };
 }
 
-impl Stacks {
-    pub fn new(heap: Global) -> Stacks
-        ensures { stacks result ≡ empty }
+impl<T: Drop> Stack<T> {
+    pub fn new(heap: Global) -> Stack<T>
+        ensures { result ≡ [] }
     {
-        Stacks {
-            numbers: Vec::new(heap),
-            truths: Vec::new(heap),
+        Stack {
+            items: Vec::new(heap),
         }
     }
 
     pub fn clear(&mut self)
-        ensures { stacks self.new ≡ empty }
+        ensures { self.new ≡ [] }
+    {
+        self.items.clear();
+    }
+
+    pub fn push(&mut self, x: Result<T, Failure>) -> Result<(), AllocError>
+        ensures { OnOk result (self.new ≡ result_ok x ∷ self.old) }
+    {
+        self.items.push(x)?;
+        Ok(())
+    }
+
+    // `at`: the place of what wants it.
+    pub fn pop(&mut self, at: Place) -> Result<T, Failure>
+        ensures value { result_ok result ≡ top self.old }
+        ensures after { self.new ≡ under self.old }
+    {
+        self.items.pop().unwrap_or(Err(Reason::Undefined.at(at)))
+    }
+
+    // The two on top, the upper one last.
+    pub fn pop_two(&mut self, at: Place) -> (Result<T, Failure>, Result<T, Failure>)
+        ensures left { result_ok result.0 ≡ top (under self.old) }
+        ensures right { result_ok result.1 ≡ top self.old }
+        ensures after { self.new ≡ under (under self.old) }
+    {
+        let y = self.pop(at);
+        let x = self.pop(at);
+        (x, y)
+    }
+
+    // In place of the two on top, what is made of them.
+    pub(crate) fn merge<F>(&mut self, at: Place, f: F) -> Result<(), AllocError>
+    where
+        F: FnOnce(Result<T, Failure>, Result<T, Failure>) -> Result<T, Failure>,
+        requires { F.IsAlwaysCallable f }
+        ensures { OnOk result (Merged (F.post f) self.old self.new) }
+    {
+        let (x, y) = self.pop_two(at);
+        self.push(f(x, y))
+    }
+}
+
+#[derive(Drop)]
+pub struct Stacks {
+    pub numbers: Stack<u64>,
+    pub truths: Stack<bool>,
+}
+
+impl Stacks {
+    pub fn new(heap: Global) -> Stacks
+        ensures { result ≡ empty }
+    {
+        Stacks {
+            numbers: Stack::new(heap),
+            truths: Stack::new(heap),
+        }
+    }
+
+    pub fn clear(&mut self)
+        ensures { self.new ≡ empty }
     {
         self.numbers.clear();
         self.truths.clear();
     }
+}
 
-    pub fn push_number(&mut self, n: Result<u64, Failure>) -> Result<(), AllocError>
-        ensures { OnOk result (stacks self.new ≡ push_number (result_ok n) (stacks self.old)) }
-    {
-        self.numbers.push(n)?;
-        Ok(())
-    }
+#[cfg(test)]
+mod tests {
+    use super::*;
 
-    pub fn push_truth(&mut self, t: Result<bool, Failure>) -> Result<(), AllocError>
-        ensures { OnOk result (stacks self.new ≡ push_truth (result_ok t) (stacks self.old)) }
-    {
-        self.truths.push(t)?;
-        Ok(())
-    }
-
-    // `at`: the place of what wants the number.
-    pub fn pop_number(&mut self, at: Place) -> Result<u64, Failure>
-        ensures value { result_ok result ≡ top (stacks self.old).numbers }
-        ensures after { stacks self.new ≡ pop_number (stacks self.old) }
-    {
-        match self.numbers.pop() {
-            Some(n) => n,
-            None => Err(missing(at)),
-        }
-    }
-
-    pub fn pop_truth(&mut self, at: Place) -> Result<bool, Failure>
-        ensures value { result_ok result ≡ top (stacks self.old).truths }
-        ensures after { stacks self.new ≡ pop_truth (stacks self.old) }
-    {
-        match self.truths.pop() {
-            Some(t) => t,
-            None => Err(missing(at)),
-        }
-    }
-
-    // The two numbers on top, the upper one last.
-    pub fn pop_numbers(&mut self, at: Place) -> (Result<u64, Failure>, Result<u64, Failure>)
-        ensures left { result_ok result.0 ≡ top (under (stacks self.old).numbers) }
-        ensures right { result_ok result.1 ≡ top (stacks self.old).numbers }
-        ensures after { stacks self.new ≡ pop_number (pop_number (stacks self.old)) }
-    {
-        let y = self.pop_number(at);
-        let x = self.pop_number(at);
-        (x, y)
-    }
-
-    pub fn pop_truths(&mut self, at: Place) -> (Result<bool, Failure>, Result<bool, Failure>)
-        ensures left { result_ok result.0 ≡ top (under (stacks self.old).truths) }
-        ensures right { result_ok result.1 ≡ top (stacks self.old).truths }
-        ensures after { stacks self.new ≡ pop_truth (pop_truth (stacks self.old)) }
-    {
-        let y = self.pop_truth(at);
-        let x = self.pop_truth(at);
-        (x, y)
+    // That there was memory is said by no contract.
+    #[test]
+    fn gives_back_what_was_pushed(rt: HostRuntime) {
+        let mut numbers: Stack<u64> = Stack::new(rt.alloc());
+        assert!(rt; numbers.push(Ok(3)).is_ok());
+        assert!(rt; numbers.push(Ok(4)).is_ok());
+        let (x, y) = numbers.pop_two(Place(0));
+        assert_eq!(rt; x.unwrap_or(0), 3);
+        assert_eq!(rt; y.unwrap_or(0), 4);
     }
 }
