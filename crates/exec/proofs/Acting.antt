@@ -16,24 +16,19 @@ use Rattle.walk.proofs.Outlines.{skipped}
 use Rattle.walk.specs.Walking.{first, rest}
 use Rattle.eval.proofs.Ops.{code_ops_expr, code_ops_bool, apply_expr, apply_bool, nesting_expr, nesting_bool}
 use Rattle.eval.specs.Kinds.{operand}
-use Rattle.eval.specs.Ops.{Op, Stacks, empty, push_number, code_ops, ops_expr, ops_bool, ops_nesting, apply_all}
+use Rattle.eval.specs.declared.stacks.Stacks.{Stacks}
+use Rattle.eval.specs.Ops.{Op, empty, push_number, code_ops, ops_expr, ops_bool, ops_nesting, apply_all}
 use Rattle.exec.proofs.Resuming.{stmt_failed, stmt_done}
 use Rattle.exec.proofs.Stepping.{Works, assigning, storing, checking, Ahead, work, a_havoc, ahead, shallow, narrow}
-use Rattle.exec.specs.Activating.{names, params, now_state, old_state, Wrote}
-use Rattle.exec.specs.Deeds.{works, havocs, deed, action, act_on, Stays, Acted, Worked}
-use Rattle.exec.specs.Framing.{stack}
+use Rattle.exec.specs.Activating.{names, params, now_state, old_state, Stays, Wrote}
+use Rattle.exec.specs.Deeds.{works, havocs, deed, action, act_on, Acted, Worked}
+use Rattle.exec.specs.Framing.{block}
 use Rattle.exec.specs.Machine as formal
 use Rattle.exec.specs.Machine.{resume}
-use Rattle.exec.specs.Running.{Fit, BlockAt, run_of, Behind, Comes, in_block}
-use Rattle.exec.specs.declared.activation.Activation.{Activation}
-use Rattle.exec.specs.declared.frame.Mode.TheVariants.{Block}
-use Rattle.exec.specs.declared.machine.Machine.{Machine}
+use Rattle.exec.specs.Running.{BlockAt, Stage, run_of, Behind, Comes, in_block}
 
 -- options in sequence
 module _ (cs : List ℕ) where
-  ended_in : State → Outcome
-  ended_in t = ok (record { state = t; choices = cs })
-
   need_two : {A B : Type 0} (a : Option A) (b : Option B) (f : A → State) → need a (λ v. need b λ _. ok (record { state = f v; choices = cs })) ≡ need (a >>= λ v. b >>= λ _. Some (f v)) (λ t. ok (record { state = t; choices = cs }))
   need_two None b f = refl
   need_two (Some v) None f = refl
@@ -94,20 +89,17 @@ simple_of p ds os (checking {b}) good =
     }
 
 -- the same procedure, with other numbers
-module _ (held : Program) (cs : List ℕ) (p : syntax.Program) (m n : Machine) (stays : Stays held m.running n.running) (frames : stack n.frames ≡ stack m.frames) where
+module _ (held : Program) (p : syntax.Program) (m n : Stage) (stays : Stays m.running n.running) (frames : n.frames ≡ m.frames) where
   old_same : old_state held n.running ≡ old_state held m.running
   old_same = rw (stays.params_stay, stays.olds_stay)
 
-  pub on_block : (at u : ℕ) (v : Outcome) (fs : List formal.Frame) (ss : syntax.Block) → Behind held cs p m fs → BlockAt held p (names held m.running) (params held m.running) at ss → resume p (old_state held m.running) fs (exec_block u p (old_state held m.running) ss (run_of held cs n)) ≡ v → Comes held cs p n (Block at u) v
+  pub on_block : (at u : ℕ) (v : Outcome) (fs : List formal.Frame) (ss : syntax.Block) → Behind held p m fs → BlockAt held p (names held m.running) (params held m.running) at ss → resume p (old_state held m.running) fs (exec_block u p (old_state held m.running) ss (run_of held n)) ≡ v → Comes held p n (Some (block at u)) v
   on_block at u v fs ss bh blk g =
-      let P : State → Type 0 = λ o. resume p o fs (exec_block u p o ss (run_of held cs n)) ≡ v in
+      let P : State → Type 0 = λ o. resume p o fs (exec_block u p o ss (run_of held n)) ≡ v in
       in_block fs ss
-      (record { apart = rw (stays.params_stay, stays.locals_stay) bh.apart; stands = rw (stays.params_stay, stays.locals_stay, frames) bh.stands })
+      (record { program_is = stays.program_stays ∙ bh.program_is; apart = rw (stays.params_stay, stays.locals_stay) bh.apart; stands = rw (stays.params_stay, stays.locals_stay, frames) bh.stands })
       (rw (stays.params_stay, stays.locals_stay) blk)
       (subst P (sym old_same) g)
-
-pub still_fit : (held : Program) (m n : Machine) → Stays held m.running n.running → stack n.frames ≡ stack m.frames → Fit held m → Fit held n
-still_fit held m n stays frames fit = record { running = stays.sized; frames = rw frames fit.frames }
 
 -- where the statements go on behind one
 pub behind_block : (held : Program) (p : syntax.Program) (ds os : List Decl) (at next : ℕ) (s : Stmt) (ss : syntax.Block) (blk : BlockAt held p ds os at (seq s ss)) → rest held next ≡ code_block ss (blk.stop ∷ blk.behind) → BlockAt held p ds os next ss
@@ -118,7 +110,7 @@ pub first_sound : (held : Program) (p : syntax.Program) (ds os : List Decl) (at 
 unfolding sound_block
 first_sound held p ds os at s ss blk = (and_parts (sound_stmt p ds os s) (sound_block p ds os ss) blk.is_sound).0
 
-module _ (held : Program) (cs : List ℕ) (m : Machine) (p : syntax.Program) (hold : Holds held p) (is_sound : sound p ≡ true) (v : Outcome) (at till u : ℕ) (st : Stacks) (more : 1 < u) (worked : Worked held m.running at till st) where
+module _ (held : Program) (m : Stage) (p : syntax.Program) (hold : Holds held p) (is_sound : sound p ≡ true) (v : Outcome) (at till u : ℕ) (st : Stacks) (more : 1 < u) (worked : Worked held m.running at till st) where
   -- what was done, formally
   module _ (s : Stmt) (ss : syntax.Block) (blk : BlockAt held p (names held m.running) (params held m.running) at (seq s ss)) (simple : Simple p s) where
     reached : (rest held till ≡ simple.last ∷ code_block ss (blk.stop ∷ blk.behind)) × (st ≡ apply_all p.width (now_state held m.running) (old_state held m.running) simple.ops empty)
@@ -128,36 +120,33 @@ module _ (held : Program) (cs : List ℕ) (m : Machine) (p : syntax.Program) (ho
         let P : ℕ → Type 0 = λ w. st ≡ apply_all w (now_state held m.running) (old_state held m.running) simple.ops empty in
         (got.0, subst P hold.width got.1)
 
-    done_by : exec (u - 1) p (old_state held m.running) s (run_of held cs m) ≡ need (act_on (action (first (rest held till))) st (now_state held m.running)) λ t. ok (record { state = t; choices = drop m.taken cs })
-    done_by = simple.acts (u - 1) (u - 2) (old_state held m.running) (run_of held cs m) (omega arith) ∙ rw (reached.0, reached.1) refl
+    done_by : exec (u - 1) p (old_state held m.running) s (run_of held m) ≡ need (act_on (action (first (rest held till))) st (now_state held m.running)) λ t. ok (record { state = t; choices = m.choices })
+    done_by = simple.acts (u - 1) (u - 2) (old_state held m.running) (run_of held m) (omega arith) ∙ rw (reached.0, reached.1) refl
 
-  work_fails : (fs : List formal.Frame) {ss : syntax.Block} → Ahead works ss → act_on (action (first (rest held till))) st (now_state held m.running) ≡ None → BlockAt held p (names held m.running) (params held m.running) at ss → resume p (old_state held m.running) fs (exec_block u p (old_state held m.running) ss (run_of held cs m)) ≡ v → v ≡ failed
+  work_fails : (fs : List formal.Frame) {ss : syntax.Block} → Ahead works ss → act_on (action (first (rest held till))) st (now_state held m.running) ≡ None → BlockAt held p (names held m.running) (params held m.running) at ss → resume p (old_state held m.running) fs (exec_block u p (old_state held m.running) ss (run_of held m)) ≡ v → v ≡ failed
   work_fails fs (work {s} {ss} w) none_acted blk g =
       let ds = names held m.running in
       let os = params held m.running in
       let simple = simple_of p ds os w (first_sound held p ds os at s ss blk) in
-      stmt_failed p (old_state held m.running) fs (run_of held cs m) v u (u - 1) (omega arith) s ss g (done_by s ss blk simple ∙ rw none_acted refl)
+      stmt_failed p (old_state held m.running) fs (run_of held m) v u (u - 1) (omega arith) s ss g (done_by s ss blk simple ∙ rw none_acted refl)
 
-  pub work_failed : deed (first (rest held at)) ≡ works → act_on (action (first (rest held till))) st (now_state held m.running) ≡ None → Comes held cs p m (Block at u) v → v ≡ failed
+  pub work_failed : deed (first (rest held at)) ≡ works → act_on (action (first (rest held till))) st (now_state held m.running) ≡ None → Comes held p m (Some (block at u)) v → v ≡ failed
   work_failed d none_acted (in_block fs ss bh blk g) = work_fails fs (ahead blk d) none_acted blk g
 
-  work_goes : (next : ℕ) (n : Machine) (fs : List formal.Frame) {ss : syntax.Block} → Ahead works ss → Acted held m.running n.running (action (first (rest held till))) st → n.taken ≡ m.taken → stack n.frames ≡ stack m.frames → next ≡ min (till + 1) (length (code_of held)) → Behind held cs p m fs → BlockAt held p (names held m.running) (params held m.running) at ss → resume p (old_state held m.running) fs (exec_block u p (old_state held m.running) ss (run_of held cs m)) ≡ v → Comes held cs p n (Block next (u - 1)) v
-  work_goes next n fs (work {s} {ss} w) acted taken frames is_next bh blk g =
+  work_goes : (next : ℕ) (n : Stage) (fs : List formal.Frame) {ss : syntax.Block} → Ahead works ss → Acted held m.running n.running (action (first (rest held till))) st → n.choices ≡ m.choices → n.frames ≡ m.frames → next ≡ min (till + 1) (length (code_of held)) → Behind held p m fs → BlockAt held p (names held m.running) (params held m.running) at ss → resume p (old_state held m.running) fs (exec_block u p (old_state held m.running) ss (run_of held m)) ≡ v → Comes held p n (Some (block next (u - 1))) v
+  work_goes next n fs (work {s} {ss} w) acted left frames is_next bh blk g =
       let ds = names held m.running in
       let os = params held m.running in
       let simple = simple_of p ds os w (first_sound held p ds os at s ss blk) in
-      let done : exec (u - 1) p (old_state held m.running) s (run_of held cs m) ≡ ok (run_of held cs n) = done_by s ss blk simple ∙ rw (acted.state, taken) refl in
-      on_block held cs p m n acted.stays frames next (u - 1) v fs ss bh
+      let done : exec (u - 1) p (old_state held m.running) s (run_of held m) ≡ ok (run_of held n) = done_by s ss blk simple ∙ rw (acted.state, left) refl in
+      on_block held p m n acted.stays frames next (u - 1) v fs ss bh
       (behind_block held p ds os at next s ss blk (skipped (code_of held) till next _ (reached s ss blk simple).0 1 is_next))
-      (stmt_done p (old_state held m.running) fs (run_of held cs m) v u (u - 1) (omega arith) s ss g (run_of held cs n) done)
+      (stmt_done p (old_state held m.running) fs (run_of held m) v u (u - 1) (omega arith) s ss g (run_of held n) done)
 
-  pub worked_on : (next : ℕ) (n : Machine) → deed (first (rest held at)) ≡ works → Acted held m.running n.running (action (first (rest held till))) st → n.taken ≡ m.taken → stack n.frames ≡ stack m.frames → next ≡ min (till + 1) (length (code_of held)) → Comes held cs p m (Block at u) v → Comes held cs p n (Block next (u - 1)) v
-  worked_on next n d acted taken frames is_next (in_block fs ss bh blk g) = work_goes next n fs (ahead blk d) acted taken frames is_next bh blk g
+  pub worked_on : (next : ℕ) (n : Stage) → deed (first (rest held at)) ≡ works → Acted held m.running n.running (action (first (rest held till))) st → n.choices ≡ m.choices → n.frames ≡ m.frames → next ≡ min (till + 1) (length (code_of held)) → Comes held p m (Some (block at u)) v → Comes held p n (Some (block next (u - 1))) v
+  worked_on next n d acted left frames is_next (in_block fs ss bh blk g) = work_goes next n fs (ahead blk d) acted left frames is_next bh blk g
 
 -- numbers that are chosen
-pub wrote_stays : (held : Program) (a b : Activation) (x : Word) (vs : List ℕ) → Wrote held a b x vs → Stays held a b
-wrote_stays held a b x vs w = record { params_stay = w.params_stay; locals_stay = w.locals_stay; olds_stay = w.olds_stay; sized = w.sized }
-
 module _ (p : syntax.Program) (o : State) (r : Run) (u w : ℕ) (is : u ≡ suc w) (x : Word) where
   havoc_fails : values_of r.state x ≡ None → exec u p o (havoc x) r ≡ failed
   unfolding exec
@@ -167,25 +156,25 @@ module _ (p : syntax.Program) (o : State) (r : Run) (u w : ℕ) (is : u ≡ suc 
   unfolding exec
   havoc_done vs n e long = rw (is, e, long)
 
-module _ (held : Program) (cs : List ℕ) (m : Machine) (p : syntax.Program) (hold : Holds held p) (is_sound : sound p ≡ true) (v : Outcome) (at u : ℕ) (x : Word) (more : 1 < u) where
-  havoc_fails_by : (fs : List formal.Frame) {ss : syntax.Block} → Ahead (havocs x) ss → values_of (now_state held m.running) x ≡ None → resume p (old_state held m.running) fs (exec_block u p (old_state held m.running) ss (run_of held cs m)) ≡ v → v ≡ failed
-  havoc_fails_by fs (a_havoc {ss = ss}) e g = stmt_failed p (old_state held m.running) fs (run_of held cs m) v u (u - 1) (omega arith) (havoc x) ss g (havoc_fails p (old_state held m.running) (run_of held cs m) (u - 1) (u - 2) (omega arith) x e)
+module _ (held : Program) (m : Stage) (p : syntax.Program) (hold : Holds held p) (is_sound : sound p ≡ true) (v : Outcome) (at u : ℕ) (x : Word) (more : 1 < u) where
+  havoc_fails_by : (fs : List formal.Frame) {ss : syntax.Block} → Ahead (havocs x) ss → values_of (now_state held m.running) x ≡ None → resume p (old_state held m.running) fs (exec_block u p (old_state held m.running) ss (run_of held m)) ≡ v → v ≡ failed
+  havoc_fails_by fs (a_havoc {ss = ss}) e g = stmt_failed p (old_state held m.running) fs (run_of held m) v u (u - 1) (omega arith) (havoc x) ss g (havoc_fails p (old_state held m.running) (run_of held m) (u - 1) (u - 2) (omega arith) x e)
 
-  pub havoc_failed : deed (first (rest held at)) ≡ havocs x → values_of (now_state held m.running) x ≡ None → Comes held cs p m (Block at u) v → v ≡ failed
+  pub havoc_failed : deed (first (rest held at)) ≡ havocs x → values_of (now_state held m.running) x ≡ None → Comes held p m (Some (block at u)) v → v ≡ failed
   havoc_failed d e (in_block fs ss bh blk g) = havoc_fails_by fs (ahead blk d) e g
 
-  module _ (n : Machine) (size next : ℕ) (row vs : List ℕ) (found : values_of (now_state held m.running) x ≡ Some row) (long : length row ≡ size) (wrote : Wrote held m.running n.running x vs) (are : held.width ≤ 64 → vs ≡ chosen held.width size (drop m.taken cs)) (frames : stack n.frames ≡ stack m.frames) (taken : drop n.taken cs ≡ drop size (drop m.taken cs)) (is_next : next ≡ min (at + 1) (length (code_of held))) where
-    havoc_goes : (fs : List formal.Frame) {ss : syntax.Block} → Ahead (havocs x) ss → Behind held cs p m fs → BlockAt held p (names held m.running) (params held m.running) at ss → resume p (old_state held m.running) fs (exec_block u p (old_state held m.running) ss (run_of held cs m)) ≡ v → Comes held cs p n (Block next (u - 1)) v
+  module _ (n : Stage) (size next : ℕ) (row vs : List ℕ) (found : values_of (now_state held m.running) x ≡ Some row) (long : length row ≡ size) (wrote : Wrote held m.running n.running x vs) (are : vs ≡ chosen held.width.0 size m.choices) (frames : n.frames ≡ m.frames) (left : n.choices ≡ drop size m.choices) (is_next : next ≡ min (at + 1) (length (code_of held))) where
+    havoc_goes : (fs : List formal.Frame) {ss : syntax.Block} → Ahead (havocs x) ss → Behind held p m fs → BlockAt held p (names held m.running) (params held m.running) at ss → resume p (old_state held m.running) fs (exec_block u p (old_state held m.running) ss (run_of held m)) ≡ v → Comes held p n (Some (block next (u - 1))) v
     unfolding code_block
     havoc_goes fs (a_havoc {ss = ss}) bh blk g =
         let o = old_state held m.running in
-        let P : ℕ → Type 0 = λ w. vs ≡ chosen w size (drop m.taken cs) in
-        let drawn : vs ≡ chosen p.width size (drop m.taken cs) = subst P hold.width (are (narrow held p hold is_sound)) in
-        let run : record { state = write (now_state held m.running) x (chosen p.width size (drop m.taken cs)); choices = drop size (drop m.taken cs) } ≡ run_of held cs n = rw (← drawn, ← taken, ← wrote.state) refl in
-        let done : exec (u - 1) p o (havoc x) (run_of held cs m) ≡ ok (run_of held cs n) = havoc_done p o (run_of held cs m) (u - 1) (u - 2) (omega arith) x row size found long ∙ ap ok run in
-        on_block held cs p m n (wrote_stays held m.running n.running x vs wrote) frames next (u - 1) v fs ss bh
+        let P : ℕ → Type 0 = λ w. vs ≡ chosen w size m.choices in
+        let drawn : vs ≡ chosen p.width size m.choices = subst P hold.width are in
+        let run : record { state = write (now_state held m.running) x (chosen p.width size m.choices); choices = drop size m.choices } ≡ run_of held n = rw (← drawn, ← left, ← wrote.state) refl in
+        let done : exec (u - 1) p o (havoc x) (run_of held m) ≡ ok (run_of held n) = havoc_done p o (run_of held m) (u - 1) (u - 2) (omega arith) x row size found long ∙ ap ok run in
+        on_block held p m n wrote.stays frames next (u - 1) v fs ss bh
         (behind_block held p (names held m.running) (params held m.running) at next (havoc x) ss blk (skipped (code_of held) at next _ blk.code 1 is_next))
-        (stmt_done p o fs (run_of held cs m) v u (u - 1) (omega arith) (havoc x) ss g (run_of held cs n) done)
+        (stmt_done p o fs (run_of held m) v u (u - 1) (omega arith) (havoc x) ss g (run_of held n) done)
 
-    pub havoc_on : deed (first (rest held at)) ≡ havocs x → Comes held cs p m (Block at u) v → Comes held cs p n (Block next (u - 1)) v
+    pub havoc_on : deed (first (rest held at)) ≡ havocs x → Comes held p m (Some (block at u)) v → Comes held p n (Some (block next (u - 1))) v
     havoc_on d (in_block fs ss bh blk g) = havoc_goes fs (ahead blk d) bh blk g

@@ -1,5 +1,5 @@
 -- Numbers from the row of choices.
-use Rattle.std.proofs.Common.{◌≡◌, ℕ, zero, suc, ◌+◌, ◌%◌, ◌^◌, List, [], ◌∷◌, ◌++◌, length, get_or, refl, ap, add-one}
+use Rattle.std.proofs.Common.{◌≡◌, ℕ, zero, suc, ◌+◌, ◌%◌, ◌^◌, List, [], ◌∷◌, ◌++◌, length, get_or, refl, ap, ◌∙◌, add-one}
 use native.Mathlib.Nat.{zero-mod}
 use Rattle.lang.specs.Meaning.{chosen}
 
@@ -17,8 +17,11 @@ pub chosen_none : (w : ℕ) (cs : List ℕ) → chosen w 0 cs ≡ []
 unfolding chosen
 chosen_none w cs = refl
 
-pub chosen_length : (w k : ℕ) (cs : List ℕ) → length (chosen w k cs) ≡ k
+chosen_length : (w k : ℕ) (cs : List ℕ) → length (chosen w k cs) ≡ k
 unfolding chosen
 chosen_length w zero cs = refl
 chosen_length w (suc k) [] = ap suc (chosen_length w k [])
 chosen_length w (suc k) (c ∷ cs) = ap suc (chosen_length w k cs)
+
+pub as_many : (w k : ℕ) (vs cs : List ℕ) → vs ≡ chosen w k cs → length vs ≡ k
+as_many w k vs cs e = ap length e ∙ chosen_length w k cs

@@ -1,121 +1,91 @@
--- Steps by what comes next, and by the last frame.
-use Rattle.std.proofs.Common.{◌≡◌, ℕ, true, false, List, [], ◌∷◌, sym, refl, ap, ◌∙◌, subst, arith}
+-- Steps by the last frame, and several steps.
+use Rattle.std.proofs.Common.{◌≡◌, ℕ, true, ◌-◌, List, [], ◌∷◌, length, drop, Some, None, sym, refl, ap, ◌∙◌, subst, inl, inr, arith}
+use Rattle.std.proofs.lemmas.Bool.{cases_lt}
+use Rattle.std.proofs.lemmas.List.{drop_all, length-drop}
 use Rattle.lang.specs.Meaning.{State, Outcome, ok}
+use Rattle.lang.specs.Holding.{Holds}
+use Rattle.lang.specs.Soundness.{sound}
 use Rattle.lang.specs.Syntax as syntax
 use Rattle.lang.specs.Syntax.{Decl}
 use Rattle.lang.specs.declared.program.Program.{Program}
-use Rattle.exec.specs.Activating.{names, params, old_state, Sized, Among}
-use Rattle.exec.specs.Deeds.{ends, shown, is_end}
-use Rattle.exec.specs.Framing.{stack}
+use Rattle.exec.specs.Activating.{names, params, old_state, Stays, Among}
+use Rattle.exec.proofs.Framing.{bottom_same, bottom_go, bottom_none}
+use Rattle.exec.proofs.Halting.{in_its_program}
+use Rattle.exec.proofs.Stepping.{popped_less}
+use Rattle.exec.specs.Framing.{Mode, bottom}
 use Rattle.exec.specs.Machine as formal
 use Rattle.exec.specs.Machine.{resume}
-use Rattle.exec.specs.Running.{Kept, Stands, none, rest_stands, again_stands, run_of, Comes, in_block, in_loop, at_end, Popped, Fit, Stepped, Halted, Finished, Driven}
-use Rattle.exec.specs.declared.activation.Activation.{Activation}
+use Rattle.exec.specs.Running.{Stands, none, rest_stands, again_stands, Stage, with_frame, with_frames, Left, run_of, Comes, in_block, in_loop, at_end, Onward, Stepped, Finished}
 use Rattle.exec.specs.declared.frame.Frame.{Frame}
-use Rattle.exec.specs.declared.frame.Frame.TheVariants.{Rest, Again, Return}
-use Rattle.exec.specs.declared.frame.Mode.{Mode}
-use Rattle.exec.specs.declared.frame.Mode.TheVariants.{Block, Loop, Done}
-use Rattle.exec.specs.declared.machine.Machine.{Machine}
-use Rattle.exec.specs.declared.next.Next.{Next}
-use Rattle.exec.specs.declared.stop.Stop.{Stop}
-use Rattle.exec.specs.declared.next.Next.TheVariants.{End, Work, If, While, Call, Havoc, Nothing}
+use Rattle.exec.specs.declared.frame.Frame.TheVariants.{Go}
+use Rattle.exec.specs.declared.frame.Point.{Point}
+use Rattle.exec.specs.declared.frame.Work.{Work}
+use Rattle.exec.specs.declared.frame.Work.TheVariants.{Block, Loop}
 
--- the end of statements
-pub end_shown : (held : Program) (n : Next) → true ≡ is_end n → shown held n ≡ ends
-end_shown held End e = refl
-end_shown held Work e = let z : ◌≡◌ {A = ℕ} 0 1 = cc in absurd (omega arith)
-end_shown held If e = let z : ◌≡◌ {A = ℕ} 0 1 = cc in absurd (omega arith)
-end_shown held While e = let z : ◌≡◌ {A = ℕ} 0 1 = cc in absurd (omega arith)
-end_shown held (Call f) e = let z : ◌≡◌ {A = ℕ} 0 1 = cc in absurd (omega arith)
-end_shown held (Havoc x) e = let z : ◌≡◌ {A = ℕ} 0 1 = cc in absurd (omega arith)
-end_shown held Nothing e = let z : ◌≡◌ {A = ℕ} 0 1 = cc in absurd (omega arith)
+-- choices that are left
+pub left_all : (cs : List ℕ) → Left cs cs
+left_all cs = record { taken = 0; rest_is = refl }
 
-pub no_end_shown : (held : Program) (n : Next) → false ≡ is_end n → shown held n ≡ ends → ⊥
-no_end_shown held End e h = let z : ◌≡◌ {A = ℕ} 0 1 = cc in omega arith
-no_end_shown held Work e h = let z : ◌≡◌ {A = ℕ} 0 1 = cc in omega arith
-no_end_shown held If e h = let z : ◌≡◌ {A = ℕ} 0 1 = cc in omega arith
-no_end_shown held While e h = let z : ◌≡◌ {A = ℕ} 0 1 = cc in omega arith
-no_end_shown held (Call f) e h = let z : ◌≡◌ {A = ℕ} 0 1 = cc in omega arith
-no_end_shown held (Havoc x) e h = let z : ◌≡◌ {A = ℕ} 0 1 = cc in omega arith
-no_end_shown held Nothing e h = let z : ◌≡◌ {A = ℕ} 0 1 = cc in omega arith
-
--- callers in frames
-pub kept_caller : (held : Program) (f : Frame) {a : Activation} {xs at u : ℕ} → f ≡ Return a xs at u → Kept held (f ∷ []) → Sized held a
-unfolding Kept
-kept_caller held f e k = let P : Frame → Type 0 = λ g. Kept held (g ∷ []) in (subst P e k).0
-
-split_kept : (held : Program) (f : Frame) (fs : List Frame) → Kept held (f ∷ fs) → Kept held (f ∷ []) × Kept held fs
-unfolding Kept
-split_kept held (Rest at u) fs k = (tt, k)
-split_kept held (Again at u) fs k = (tt, k)
-split_kept held (Return a xs at u) fs k = ((k.0, tt), k.1)
-
-pub kept_popped : (held : Program) (f : Frame) (fs gs : List Frame) → gs ≡ f ∷ fs → Kept held gs → Kept held (f ∷ []) × Kept held fs
-kept_popped held f fs gs e k = let P : List Frame → Type 0 = λ hs. Kept held hs in split_kept held f fs (subst P e k)
+pub left_over : (all some : List ℕ) → Left all some → drop (length all - length some) all ≡ some
+left_over all some l =
+    let size : length some ≡ length all - l.taken = ap length l.rest_is ∙ length-drop l.taken all in
+    elim (cases_lt (length all) l.taken) [
+      | inl past ↦
+          let everything : length all - length some ≡ length all = omega arith in
+          rw everything (drop_all (length all) all (omega arith) ∙ sym (l.rest_is ∙ drop_all l.taken all (omega arith)))
+      | inr within ↦
+          let taken : length all - length some ≡ l.taken = omega arith in
+          rw taken (sym l.rest_is)
+    ]
 
 -- the last frame
-module _ (held : Program) (cs : List ℕ) (p : syntax.Program) (v : Outcome) (n : Machine) (at u : ℕ) where
-  rest_goes : {fs : List formal.Frame} → Stands held p (names held n.running) (params held n.running) (Rest at u ∷ stack n.frames) fs → Among (names held n.running) (params held n.running) → resume p (old_state held n.running) fs (ok (run_of held cs n)) ≡ v → Comes held cs p n (Block at u) v
+module _ (held : Program) (p : syntax.Program) (v : Outcome) (n : Stage) where
+  rest_goes : {here : Point} {fs : List formal.Frame} → Stands held p (names held n.running) (params held n.running) (Go (Block here) ∷ n.frames) fs → n.running.program.now ≡ held → Among (names held n.running) (params held n.running) → resume p (old_state held n.running) fs (ok (run_of held n)) ≡ v → Comes held p n (Some (Block here)) v
   unfolding resume
-  rest_goes (rest_stands {ss = ss} {gs = gs} blk others) apart g = in_block gs ss (record { apart = apart; stands = others }) blk g
+  rest_goes (rest_stands {ss = ss} {gs = gs} blk others) is apart g = in_block gs ss (record { program_is = is; apart = apart; stands = others }) blk g
 
-  again_goes : {fs : List formal.Frame} → Stands held p (names held n.running) (params held n.running) (Again at u ∷ stack n.frames) fs → Among (names held n.running) (params held n.running) → resume p (old_state held n.running) fs (ok (run_of held cs n)) ≡ v → Comes held cs p n (Loop at u) v
+  again_goes : {here : Point} {fs : List formal.Frame} → Stands held p (names held n.running) (params held n.running) (Go (Loop here) ∷ n.frames) fs → n.running.program.now ≡ held → Among (names held n.running) (params held n.running) → resume p (old_state held n.running) fs (ok (run_of held n)) ≡ v → Comes held p n (Some (Loop here)) v
   unfolding resume
-  again_goes (again_stands {b = b} {i = i} {e = e} {c = c} {gs = gs} lp others) apart g = in_loop gs b i e c (record { apart = apart; stands = others }) lp g
+  again_goes (again_stands {b = b} {i = i} {e = e} {c = c} {gs = gs} lp others) is apart g = in_loop gs b i e c (record { program_is = is; apart = apart; stands = others }) lp g
 
-  module _ (m : Machine) (f : Frame) (popped : Popped m n f) where
-    moved : Comes held cs p m Done v → Comes held cs p (record { running = n.running; frames = m.frames; taken = n.taken }) Done v
-    moved from =
-        let P : Machine → Type 0 = λ k. Comes held cs p k Done v in
-        let is : m ≡ record { running = n.running; frames = m.frames; taken = n.taken } = rw (← popped.running, ← popped.taken) refl in
-        subst P is from
-
-    rest_from : Comes held cs p (record { running = n.running; frames = m.frames; taken = n.taken }) Done v → f ≡ Rest at u → Comes held cs p n (Block at u) v
-    rest_from (at_end fs bh g) e =
-        let P : List Frame → Type 0 = λ gs. Stands held p (names held n.running) (params held n.running) gs fs in
-        rest_goes (subst P (popped.frames ∙ ap (λ h. h ∷ stack n.frames) e) bh.stands) bh.apart g
-
-    again_from : Comes held cs p (record { running = n.running; frames = m.frames; taken = n.taken }) Done v → f ≡ Again at u → Comes held cs p n (Loop at u) v
-    again_from (at_end fs bh g) e =
-        let P : List Frame → Type 0 = λ gs. Stands held p (names held n.running) (params held n.running) gs fs in
-        again_goes (subst P (popped.frames ∙ ap (λ h. h ∷ stack n.frames) e) bh.stands) bh.apart g
-
-    pub rest_resumed : f ≡ Rest at u → Comes held cs p m Done v → Comes held cs p n (Block at u) v
-    rest_resumed e from = rest_from (moved from) e
-
-    pub again_resumed : f ≡ Again at u → Comes held cs p m Done v → Comes held cs p n (Loop at u) v
-    again_resumed e from = again_from (moved from) e
+  pub went_on : (work : Work) → Comes held p (with_frame (Go work) n) None v → Comes held p n (Some work) v
+  went_on (Block here) (at_end fs bh g) = rest_goes bh.stands bh.program_is bh.apart g
+  went_on (Loop here) (at_end fs bh g) = again_goes bh.stands bh.program_is bh.apart g
 
 -- no frame is left
-module _ (held : Program) (cs : List ℕ) (p : syntax.Program) (v : Outcome) (m : Machine) where
+module _ (held : Program) (p : syntax.Program) (v : Outcome) (s : Stage) where
   none_left : {ds os : List Decl} {fs : List formal.Frame} → Stands held p ds os [] fs → (o : State) (r : Outcome) → resume p o fs r ≡ r
   unfolding resume
   none_left none o r = refl
 
-  pub all_done : stack m.frames ≡ [] → Comes held cs p m Done v → v ≡ ok (run_of held cs m)
+  pub all_done : s.frames ≡ [] → Comes held p s None v → v ≡ ok (run_of held s)
   all_done e (at_end fs bh g) =
-      let P : List Frame → Type 0 = λ gs. Stands held p (names held m.running) (params held m.running) gs fs in
-      sym g ∙ none_left (subst P e bh.stands) (old_state held m.running) (ok (run_of held cs m))
+      let P : List Frame → Type 0 = λ gs. Stands held p (names held s.running) (params held s.running) gs fs in
+      sym g ∙ none_left (subst P e bh.stands) (old_state held s.running) (ok (run_of held s))
 
--- a step of a mode that is known
-module _ (held : Program) (cs : List ℕ) (m n : Machine) {mode known : Mode} (e : mode ≡ known) where
-  pub stepped_at : {next : Mode} → Stepped held cs m known n next → Stepped held cs m mode n next
-  stepped_at {next} h = let P : Mode → Type 0 = λ x. Stepped held cs m x n next in subst P (sym e) h
+pub goes_on : (n : Stage) (f : Frame) (work : Work) → f ≡ Go work → Stepped (with_frame f n) None n (Some work)
+unfolding bottom
+goes_on n f work e =
+    let P : Frame → Type 0 = λ g. Stepped (with_frame g n) None n (Some work) in
+    let same : Stepped (with_frame (Go work) n) None n (Some work) = record {
+      less = popped_less (Go work) n.frames work refl;
+      onward = record { same_bottom = refl; choices_left = left_all n.choices; comes = λ held p hold is_sound v. went_on held p v n work };
+    } in
+    subst P (sym e) same
 
-  pub finished_at : Finished held cs m known n → Finished held cs m mode n
-  finished_at h = let P : Mode → Type 0 = λ x. Finished held cs m x n in subst P (sym e) h
+pub ran_out : (s : Stage) (fs : List Frame) → s.frames ≡ [] → Finished s None (with_frames s fs)
+ran_out s fs e = record { same_bottom = bottom_none s.running e; choices_left = left_all s.choices; comes = λ held p hold is_sound v. all_done held p v s e }
 
--- several steps
-module _ (held : Program) (cs : List ℕ) (m : Machine) (start : Mode) where
-  pub driven_none : Fit held m → Driven held cs m start m start
-  driven_none fit = record { fit = fit; same_bottom = refl; comes = λ p hold is_sound v from. from }
+-- the same outcome in the program of what is running
+pub onward_by : (s : Stage) (mode : Mode) (t : Stage) (next : Mode) → bottom t.running t.frames ≡ bottom s.running s.frames → Left s.choices t.choices → ((p : syntax.Program) → Holds s.running.program.now p → sound p ≡ true → (v : Outcome) → Comes s.running.program.now p s mode v → Comes s.running.program.now p t next v) → Onward s mode t next
+onward_by s mode t next low left h = record { same_bottom = low; choices_left = left; comes = in_its_program s mode (λ held p v. Comes held p t next v) h }
 
-  module _ (n : Machine) (mode : Mode) (far : Driven held cs m start n mode) where
-    pub driven_more : (k : Machine) (next : Mode) → Stepped held cs n mode k next → Driven held cs m start k next
-    driven_more k next s = record { fit = s.fit; same_bottom = s.same_bottom ∙ far.same_bottom; comes = λ p hold is_sound v from. s.comes p hold is_sound v (far.comes p hold is_sound v from) }
+-- with nothing changed, with other numbers, with a frame more
+pub same_onward : (s : Stage) (mode next : Mode) → ((p : syntax.Program) → Holds s.running.program.now p → sound p ≡ true → (v : Outcome) → Comes s.running.program.now p s mode v → Comes s.running.program.now p s next v) → Onward s mode s next
+same_onward s mode next h = onward_by s mode s next refl (left_all s.choices) h
 
-    pub driven_done : (k : Machine) → Finished held cs n mode k → Finished held cs m start k
-    driven_done k f = record { same_bottom = f.same_bottom ∙ far.same_bottom; comes = λ p hold is_sound v from. f.comes p hold is_sound v (far.comes p hold is_sound v from) }
+pub stays_onward : (s : Stage) (mode : Mode) (t : Stage) (next : Mode) → Stays s.running t.running → t.frames ≡ s.frames → Left s.choices t.choices → ((p : syntax.Program) → Holds s.running.program.now p → sound p ≡ true → (v : Outcome) → Comes s.running.program.now p s mode v → Comes s.running.program.now p t next v) → Onward s mode t next
+stays_onward s mode t next stays frames left h = onward_by s mode t next (bottom_same s.running t.running stays.params_stay stays.locals_stay frames) left h
 
-    pub driven_halted : (s : Stop) → Halted held cs n mode s → Halted held cs m start s
-    driven_halted s h = record { comes = λ p hold is_sound v from. h.comes p hold is_sound v (far.comes p hold is_sound v from) }
+pub pushed_onward : (s : Stage) (mode : Mode) (fs : List Frame) (work : Work) (next : Mode) → fs ≡ Go work ∷ s.frames → ((p : syntax.Program) → Holds s.running.program.now p → sound p ≡ true → (v : Outcome) → Comes s.running.program.now p s mode v → Comes s.running.program.now p (with_frames s fs) next v) → Onward s mode (with_frames s fs) next
+pushed_onward s mode fs work next pushed h = onward_by s mode (with_frames s fs) next (bottom_go s.running pushed) (left_all s.choices) h

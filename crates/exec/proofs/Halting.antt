@@ -1,5 +1,5 @@
 -- Steps that do not come to another.
-use Rattle.std.proofs.Common.{◌≡◌, ℕ, true, List, IsErrAnd, Ok, Err, Result, refl}
+use Rattle.std.proofs.Common.{◌≡◌, ℕ, true, IsErrAnd, Result, MatchResult, subst}
 use Rattle.lang.specs.Holding.{Holds}
 use Rattle.lang.specs.Meaning.{Outcome, failed}
 use Rattle.lang.specs.Soundness.{sound}
@@ -7,47 +7,61 @@ use Rattle.lang.specs.Syntax as syntax
 use Rattle.lang.specs.declared.program.Program.{Program}
 use Rattle.eval.specs.declared.failure.Failure.{Failure}
 use Rattle.lang.specs.Base.{Word}
+use Rattle.exec.proofs.Stopping.{handed_on}
 use Rattle.exec.specs.Calling.{Unsound, Unprepared}
 use Rattle.exec.specs.Deeds.{Untold, Untested}
-use Rattle.exec.specs.Running.{Comes, Halted, Steps}
-use Rattle.exec.specs.declared.frame.Mode.{Mode}
-use Rattle.exec.specs.declared.machine.Machine.{Machine}
+use Rattle.exec.specs.Framing.{Mode}
+use Rattle.exec.specs.Running.{Stage, Comes, in_block, in_loop, at_end, Stopped, Halted}
 use Rattle.exec.specs.declared.stop.Stop.{Stop}
 use Rattle.exec.specs.declared.stop.Stop.TheVariants.{Memory, Failed, Late}
 
--- what hinders a call, where a program is sound
-unsound_call : (held : Program) (cs : List ℕ) (m : Machine) (mode : Mode) (f : Word) (xs : ℕ) (s : Stop) → Unprepared held m.running f xs s → (Unsound held m.running f xs → (p : syntax.Program) → Holds held p → sound p ≡ true → (v : Outcome) → Comes held cs p m mode v → ⊥) → Halted held cs m mode s
-unsound_call held cs m mode f xs Memory u h = record { comes = λ p hold is_sound v from. tt }
-unsound_call held cs m mode f xs (Failed e) u h = record { comes = λ p hold is_sound v from. absurd (h u p hold is_sound v from) }
-unsound_call held cs m mode f xs Late u h = absurd u
+-- A stage comes to an outcome only in the program of what is running.
+module _ (s : Stage) where
+  its_program : {held : Program} {p : syntax.Program} {mode : Mode} {v : Outcome} → Comes held p s mode v → s.running.program.now ≡ held
+  its_program (in_block fs ss bh blk g) = bh.program_is
+  its_program (in_loop fs b i e c bh lp g) = bh.program_is
+  its_program (at_end fs bh g) = bh.program_is
 
-pub call_halts : (held : Program) (cs : List ℕ) (m : Machine) (mode : Mode) (f : Word) (xs : ℕ) (n : Machine) (s : Stop) (r : Result Mode Stop) → IsErrAnd r (λ t. t ≡ s) → Unprepared held m.running f xs s → (Unsound held m.running f xs → (p : syntax.Program) → Holds held p → sound p ≡ true → (v : Outcome) → Comes held cs p m mode v → ⊥) → Steps held cs m mode n r
-call_halts held cs m mode f xs n s (Ok x) e u h = absurd e
-call_halts held cs m mode f xs n s (Err y) e u h = rw e (unsound_call held cs m mode f xs s u h)
+  pub in_its_program : (mode : Mode) (Q : Program → syntax.Program → Outcome → Type 0) → ((p : syntax.Program) → Holds s.running.program.now p → sound p ≡ true → (v : Outcome) → Comes s.running.program.now p s mode v → Q s.running.program.now p v) → (held : Program) (p : syntax.Program) → Holds held p → sound p ≡ true → (v : Outcome) → Comes held p s mode v → Q held p v
+  in_its_program mode Q h held p hold is_sound v from =
+      let P : Program → Type 0 = λ x. Holds x p → Comes x p s mode v → Q x p v in
+      subst P (its_program from) (λ hold' from'. h p hold' is_sound v from') hold from
 
-module _ (held : Program) (cs : List ℕ) (m : Machine) (mode : Mode) where
-  pub halted_memory : (s : Stop) → s ≡ Memory → Halted held cs m mode s
-  halted_memory s e = record { comes = λ p hold is_sound v from. rw e tt }
+module _ (s : Stage) (mode : Mode) where
+  -- what comes of it in the program of what is running
+  abbrev pub InIts : (Outcome → Type 0) → Type 0
+  InIts Q = (p : syntax.Program) → Holds s.running.program.now p → sound p ≡ true → (v : Outcome) → Comes s.running.program.now p s mode v → Q v
 
-  pub halted_failed : (s : Stop) (f : Failure) → s ≡ Failed f → ((p : syntax.Program) → Holds held p → sound p ≡ true → (v : Outcome) → Comes held cs p m mode v → v ≡ failed) → Halted held cs m mode s
-  halted_failed s f e h = record { comes = λ p hold is_sound v from. rw e (h p hold is_sound v from) }
+  pub halted_by : (e : Stop) → InIts (Stopped e) → Halted s mode e
+  halted_by e h = record { comes = in_its_program s mode (λ _ _ v. Stopped e v) h }
 
-  untold_halts : (s : Stop) (from : ℕ) → Untested held m.running from s → (Untold held m.running from → (p : syntax.Program) → Holds held p → sound p ≡ true → (v : Outcome) → Comes held cs p m mode v → v ≡ failed) → Halted held cs m mode s
-  untold_halts Memory from u h = halted_memory Memory refl
-  untold_halts (Failed f) from u h = halted_failed (Failed f) f refl (h u)
-  untold_halts Late from u h = absurd u
+  pub never : (e : Stop) → InIts (λ _. ⊥) → Halted s mode e
+  never e h = halted_by e (λ p hold is_sound v from. absurd (h p hold is_sound v from))
 
-  -- a condition that cannot be told
-  pub halts : (n : Machine) (from : ℕ) (s : Stop) (r : Result Mode Stop) → IsErrAnd r (λ t. t ≡ s) → Untested held m.running from s → (Untold held m.running from → (p : syntax.Program) → Holds held p → sound p ≡ true → (v : Outcome) → Comes held cs p m mode v → v ≡ failed) → Steps held cs m mode n r
-  halts n from s (Ok x) e u h = absurd e
-  halts n from s (Err y) e u h = rw e (untold_halts s from u h)
+  untold_halts : (from : ℕ) (e : Stop) → Untested s.running.program.now s.running from e → (Untold s.running.program.now s.running from → InIts (λ v. v ≡ failed)) → Halted s mode e
+  untold_halts from Memory u h = halted_by Memory (λ p hold is_sound v from. tt)
+  untold_halts from (Failed f) u h = halted_by (Failed f) (h u)
+  untold_halts from Late u h = absurd u
 
-  -- a failure that is handed on
-  pub failure_halts : (n : Machine) (f : Failure) (r : Result Mode Stop) → IsErrAnd r (λ t. t ≡ Failed f) → ((p : syntax.Program) → Holds held p → sound p ≡ true → (v : Outcome) → Comes held cs p m mode v → v ≡ failed) → Steps held cs m mode n r
-  failure_halts n f (Ok x) e h = absurd e
-  failure_halts n f (Err y) e h = halted_failed y f e h
+  unsound_call : (f : Word) (xs : ℕ) (e : Stop) → Unprepared s.running.program.now s.running f xs e → (Unsound s.running.program.now s.running f xs → InIts (λ _. ⊥)) → Halted s mode e
+  unsound_call f xs Memory u h = halted_by Memory (λ p hold is_sound v from. tt)
+  unsound_call f xs (Failed e) u h = never (Failed e) (h u)
+  unsound_call f xs Late u h = absurd u
 
-  -- what does not happen
-  pub never_halts : (n : Machine) (r : Result Mode Stop) (R : Stop → Type 0) → IsErrAnd r R → ((p : syntax.Program) → Holds held p → sound p ≡ true → (v : Outcome) → Comes held cs p m mode v → ⊥) → Steps held cs m mode n r
-  never_halts n (Ok x) R e h = absurd e
-  never_halts n (Err y) R e h = record { comes = λ p hold is_sound v from. absurd (h p hold is_sound v from) }
+  -- what a `?` hands on
+  module _ {T : Type 0} (P : T → Type 0) (r : Result T Stop) where
+    -- a call that is hindered, where a program is sound
+    pub call_halts : (f : Word) (xs : ℕ) (e : Stop) → IsErrAnd r (λ t. t ≡ e) → Unprepared s.running.program.now s.running f xs e → (Unsound s.running.program.now s.running f xs → InIts (λ _. ⊥)) → MatchResult r P (λ t. Halted s mode t)
+    call_halts f xs e is u h = handed_on r P (λ t. Halted s mode t) is (λ y same. rw same (unsound_call f xs e u h))
+
+    -- a condition that cannot be told
+    pub halts : (from : ℕ) (e : Stop) → IsErrAnd r (λ t. t ≡ e) → Untested s.running.program.now s.running from e → (Untold s.running.program.now s.running from → InIts (λ v. v ≡ failed)) → MatchResult r P (λ t. Halted s mode t)
+    halts from e is u h = handed_on r P (λ t. Halted s mode t) is (λ y same. rw same (untold_halts from e u h))
+
+    -- a failure
+    pub failure_halts : (f : Failure) → IsErrAnd r (λ t. t ≡ Failed f) → InIts (λ v. v ≡ failed) → MatchResult r P (λ t. Halted s mode t)
+    failure_halts f is h = handed_on r P (λ t. Halted s mode t) is (λ y same. rw same (halted_by (Failed f) h))
+
+-- what does not happen in any program
+pub handed_on_never : (s : Stage) (mode : Mode) {T : Type 0} (P : T → Type 0) (r : Result T Stop) (R : Stop → Type 0) → IsErrAnd r R → ((held : Program) (p : syntax.Program) → Holds held p → sound p ≡ true → (v : Outcome) → Comes held p s mode v → ⊥) → MatchResult r P (λ t. Halted s mode t)
+handed_on_never s mode P r R is h = handed_on r P (λ t. Halted s mode t) is (λ y _. record { comes = λ held p hold is_sound v from. absurd (h held p hold is_sound v from) })

@@ -1,6 +1,6 @@
 -- Arguments: from the caller to the procedure, and back.
-use Rattle.std.proofs.Common.{◌≡◌, ℕ, ◌+◌, ◌-◌, true, false, cond, eqb, List, [], ◌∷◌, ◌++◌, length, replicate, Some, None, vec_items, Option, sym, refl, ap, ◌∙◌, subst, inl, inr, append_assoc, append-nil, arith}
-use Rattle.std.proofs.lemmas.List.{length-append, length-replicate, take-replicate, drop-replicate, replicate-append-replicate, take_all}
+use Rattle.std.proofs.Common.{◌≡◌, ℕ, ◌+◌, ◌-◌, true, false, cond, eqb, List, [], ◌∷◌, ◌++◌, length, take, replicate, Some, None, vec_items, Option, sym, refl, ap, ◌∙◌, subst, inl, inr, append_assoc, append-nil, arith}
+use Rattle.std.proofs.lemmas.List.{length-append, length-replicate, take-replicate, drop-replicate, take_all}
 use Rattle.std.proofs.lemmas.Bool.{and_parts, cases_Bool, eqb-true, both_ways}
 use Rattle.lang.specs.Base.{◌>>=◌, maybe, Word, same}
 use Rattle.lang.specs.Meaning.{State, values_of, count, pass, pass_back, zeros}
@@ -11,7 +11,7 @@ use Rattle.walk.specs.Walking.{rest, declared, passed}
 use Rattle.eval.proofs.States.{counts_append, values_at, state_append}
 use Rattle.eval.specs.States.{counts, state_of, slot_of}
 use Rattle.eval.specs.declared.names.Slot.{Slot}
-use Rattle.exec.specs.Activating.{names, params, now_state, Sized, Among, one}
+use Rattle.exec.specs.Activating.{names, params, now_state, Stays, Among, one}
 use Rattle.exec.specs.Passing.{Begun, Passed, Handed, HandedBack, Unlike}
 use Rattle.exec.specs.declared.activation.Activation.{Activation}
 use Rattle.exec.proofs.Writing.{row_length}
@@ -56,28 +56,31 @@ state_zeros (d ∷ ds) =
     let left : count d + counts ds - count d ≡ counts ds = omega arith in
     rw (take-replicate (count d) (count d + counts ds) n (omega arith), drop-replicate (count d) (count d + counts ds) n, left) (ap (λ s. record { name = d.name; values = replicate (count d) n } ∷ s) (state_zeros ds))
 
-pub zeros_none : (xs : List ℕ) (ds : List Decl) → ds ≡ [] → xs ++ replicate (counts ds) 0 ≡ xs
-unfolding counts
-zeros_none xs ds e = rw e (append-nil xs)
+-- zeros behind others, by their count
+pub filled : (xs all : List ℕ) (long count more n : ℕ) → all ≡ take count xs ++ replicate (count - long) 0 → long ≡ length xs → count ≡ long + more → more ≡ n → all ≡ xs ++ replicate n 0
+filled xs all long count more n is is_long sum same =
+    let left : count - long ≡ n = omega arith in
+    is ∙ rw (left, take_all count xs (omega arith))
 
-pub zeros_more : (xs : List ℕ) {ds es : List Decl} {d : Decl} → ds ≡ d ∷ es → (xs ++ replicate (count d) 0) ++ replicate (counts es) 0 ≡ xs ++ replicate (counts ds) 0
-unfolding counts
-zeros_more xs {es = es} {d = d} e = let n : ℕ = 0 in rw e (append_assoc xs (replicate (count d) n) (replicate (counts es) n) ∙ ap (λ zs. xs ++ zs) (replicate-append-replicate (count d) (counts es) n))
+pub begun_long : (held : Program) (ps ls : ℕ) (ns all : List ℕ) → length ns ≡ counts (declared (rest held ps)) → all ≡ ns ++ replicate (counts (declared (rest held ls))) 0 → length all ≡ counts (declared (rest held ps) ++ declared (rest held ls))
+begun_long held ps ls ns all long is =
+    let n = counts (declared (rest held ls)) in
+    rw is (length-append ns (replicate n 0) ∙ rw (long, length-replicate {A = ℕ} n 0, counts_append (declared (rest held ps)) (declared (rest held ls))))
 
-pub begun : (held : Program) (ps ls : ℕ) (ns : List ℕ) (a : Activation) → length ns ≡ counts (declared (rest held ps)) → a.params ≡ ps → a.locals ≡ ls → vec_items a.olds ≡ ns → vec_items a.numbers ≡ ns ++ replicate (counts (declared (rest held ls))) 0 → Begun held ps ls ns a
-begun held ps ls ns a long is_ps is_ls is_olds is_now =
+pub begun : (held : Program) (ps ls : ℕ) (ns : List ℕ) (a : Activation) → length ns ≡ counts (declared (rest held ps)) → a.program.now ≡ held → a.params ≡ ps → a.locals ≡ ls → vec_items a.olds ≡ ns → vec_items a.numbers ≡ ns ++ replicate (counts (declared (rest held ls))) 0 → Begun held ps ls ns a
+begun held ps ls ns a long is_program is_ps is_ls is_olds is_now =
     let ds = declared (rest held ps) in
     let es = declared (rest held ls) in
     record {
+      program_is = is_program;
       params_at = is_ps;
       locals_at = is_ls;
-      sized = record {
-        current = rw (is_ps, is_ls, is_now) (length-append ns (replicate (counts es) 0) ∙ rw (long, length-replicate {A = ℕ} (counts es) 0, counts_append ds es));
-        initial = rw (is_ps, is_olds) long;
-      };
       old_is = rw (is_ps, is_olds);
       now_is = rw (is_ps, is_ls, is_now) (state_append ds es ns (replicate (counts es) 0) long ∙ ap (λ z. state_of ds ns ++ z) (state_zeros es));
     }
+
+pub begun_as : {held : Program} {ps ls : ℕ} {ns ms : List ℕ} {a : Activation} → ms ≡ ns → Begun held ps ls ms a → Begun held ps ls ns a
+begun_as {held} {ps} {ls} {ns} {ms} {a} e begun = let P : List ℕ → Type 0 = λ xs. Begun held ps ls xs a in subst P e begun
 
 -- the first of several arguments
 module _ (ds : List Decl) where
@@ -106,62 +109,62 @@ module _ (ds : List Decl) where
       let c = first_found (find_decl ds x) d both.0 in
       record { decl = c.0; found = c.1; alike = ap (λ n. cond (eqb n 0) 1 n) c.2; others = both.1 }
 
--- arguments that were passed so far: to the first parameters, with the numbers ns
-pub record Passing (held : Program) (a : Activation) (xs ps i j : ℕ) (ns : List ℕ) : Type 0 where
+-- arguments that were passed so far: to the first parameters, with the numbers ns; those that are left, ds and ys
+pub record Passing (held : Program) (a : Activation) (xs ps : ℕ) (ds : List Decl) (ys : List Word) (ns : List ℕ) : Type 0 where
   pub front : List Decl
-  pub split : declared (rest held ps) ≡ front ++ declared (rest held j)
+  pub split : declared (rest held ps) ≡ front ++ ds
   pub long : length ns ≡ counts front
-  pub state : pass (now_state held a) (declared (rest held ps)) (passed (rest held xs)) ≡ (pass (now_state held a) (declared (rest held j)) (passed (rest held i)) >>= λ t. Some (state_of front ns ++ t))
-  pub sizes : same_sizes (names held a) (declared (rest held ps)) (passed (rest held xs)) ≡ true → same_sizes (names held a) (declared (rest held j)) (passed (rest held i)) ≡ true
+  pub state : pass (now_state held a) (declared (rest held ps)) (passed (rest held xs)) ≡ (pass (now_state held a) ds ys >>= λ t. Some (state_of front ns ++ t))
+  pub sizes : same_sizes (names held a) (declared (rest held ps)) (passed (rest held xs)) ≡ true → same_sizes (names held a) ds ys ≡ true
 
 same_option : {A : Type 0} (o : Option A) → o ≡ (o >>= λ t. Some t)
 same_option None = refl
 same_option (Some x) = refl
 
-pub passing_none : (held : Program) (a : Activation) (xs ps : ℕ) (ns : List ℕ) → ns ≡ [] → Passing held a xs ps xs ps ns
+pub passing_none : (held : Program) (a : Activation) (xs ps : ℕ) (ds : List Decl) (ys : List Word) (ns : List ℕ) → ds ≡ declared (rest held ps) → ys ≡ passed (rest held xs) → ns ≡ [] → Passing held a xs ps ds ys ns
 unfolding state_of counts
-passing_none held a xs ps ns e = record { front = []; split = refl; long = rw e; state = same_option _; sizes = λ h. h }
+passing_none held a xs ps ds ys ns is_ds is_ys e = rw (is_ds, is_ys) (record { front = []; split = refl; long = rw e; state = same_option _; sizes = λ h. h })
 
 shifted : (o : Option State) (s t : State) (c : _) → t ≡ s ++ c ∷ [] → ((o >>= λ u. Some (c ∷ u)) >>= λ u. Some (s ++ u)) ≡ (o >>= λ u. Some (t ++ u))
 shifted None s t c e = refl
 shifted (Some u) s t c e = rw (e, append_assoc s (c ∷ []) u)
 
-module _ (held : Program) (a : Activation) (xs ps i j : ℕ) (ns : List ℕ) (far : Passing held a xs ps i j ns) where
-  pub passing_more : {d : Decl} {x : Word} (vs : List ℕ) → declared (rest held j) ≡ d ∷ declared (rest held (j + 2)) → passed (rest held i) ≡ x ∷ passed (rest held (i + 1)) → values_of (now_state held a) x ≡ Some vs → length vs ≡ count d → Passing held a xs ps (i + 1) (j + 2) (ns ++ vs)
+module _ (held : Program) (a : Activation) (xs ps : ℕ) (ds : List Decl) (ys : List Word) (ns : List ℕ) (far : Passing held a xs ps ds ys ns) where
+  pub passing_more : {d : Decl} {es : List Decl} {x : Word} {zs : List Word} (vs : List ℕ) → ds ≡ d ∷ es → ys ≡ x ∷ zs → values_of (now_state held a) x ≡ Some vs → length vs ≡ count d → Passing held a xs ps es zs (ns ++ vs)
   unfolding pass state_of counts
-  passing_more {d} {x} vs e f found size =
+  passing_more {d} {es} {x} {zs} vs e f found size =
       let front = far.front in
       let one_more : state_of (front ++ d ∷ []) (ns ++ vs) ≡ state_of front ns ++ record { name = d.name; values = vs } ∷ [] = state_append front (d ∷ []) ns vs far.long ∙ rw (take_all (count d) vs (omega arith)) in
       record {
         front = front ++ d ∷ [];
-        split = far.split ∙ ap (λ ds. front ++ ds) e ∙ sym (append_assoc front (d ∷ []) _);
+        split = far.split ∙ ap (λ es. front ++ es) e ∙ sym (append_assoc front (d ∷ []) _);
         long = length-append ns vs ∙ rw (far.long, size, counts_append front (d ∷ [])) (omega arith);
-        state = far.state ∙ rw (e, f, found) (shifted (pass (now_state held a) (declared (rest held (j + 2))) (passed (rest held (i + 1)))) (state_of front ns) _ _ one_more);
+        state = far.state ∙ rw (e, f, found) (shifted (pass (now_state held a) es zs) (state_of front ns) _ _ one_more);
         sizes = λ h. (first_of (names held a) e f (far.sizes h)).others;
       }
 
-  pub passing_few : {x : Word} {ys : List Word} → declared (rest held j) ≡ [] → passed (rest held i) ≡ x ∷ ys → same_sizes (names held a) (declared (rest held ps)) (passed (rest held xs)) ≡ true → ⊥
+  pub passing_few : {x : Word} {zs : List Word} → ds ≡ [] → ys ≡ x ∷ zs → same_sizes (names held a) (declared (rest held ps)) (passed (rest held xs)) ≡ true → ⊥
   passing_few e f h = no_param (names held a) e f (far.sizes h)
 
-  pub passing_many : {d : Decl} {es : List Decl} → declared (rest held j) ≡ d ∷ es → passed (rest held i) ≡ [] → same_sizes (names held a) (declared (rest held ps)) (passed (rest held xs)) ≡ true → ⊥
+  pub passing_many : {d : Decl} {es : List Decl} → ds ≡ d ∷ es → ys ≡ [] → same_sizes (names held a) (declared (rest held ps)) (passed (rest held xs)) ≡ true → ⊥
   passing_many e f h = no_argument (names held a) e f (far.sizes h)
 
-  module _ {d : Decl} {x : Word} (e : declared (rest held j) ≡ d ∷ declared (rest held (j + 2))) (f : passed (rest held i) ≡ x ∷ passed (rest held (i + 1))) (sized : Sized held a) where
+  module _ {d : Decl} {es : List Decl} {x : Word} {zs : List Word} (e : ds ≡ d ∷ es) (f : ys ≡ x ∷ zs) (long : length (vec_items a.numbers) ≡ counts (names held a)) where
     pub passing_missing : values_of (now_state held a) x ≡ None → same_sizes (names held a) (declared (rest held ps)) (passed (rest held xs)) ≡ true → ⊥
     passing_missing missing h =
         let q = first_of (names held a) e f (far.sizes h) in
-        let r = row_found (names held a) (vec_items a.numbers) x q.decl sized.current q.found in
+        let r = row_found (names held a) (vec_items a.numbers) x q.decl long q.found in
         let z : ◌≡◌ {A = ℕ} 0 1 = cc r.found in
         omega arith
 
     pub passing_other : (vs : List ℕ) → values_of (now_state held a) x ≡ Some vs → (length vs ≡ count d → ⊥) → same_sizes (names held a) (declared (rest held ps)) (passed (rest held xs)) ≡ true → ⊥
     passing_other vs found other h =
         let q = first_of (names held a) e f (far.sizes h) in
-        let r = row_found (names held a) (vec_items a.numbers) x q.decl sized.current q.found in
+        let r = row_found (names held a) (vec_items a.numbers) x q.decl long q.found in
         let is : vs ≡ r.values = cc r.found in
         other (ap length is ∙ r.long ∙ q.alike)
 
-  pub passing_done : declared (rest held j) ≡ [] → passed (rest held i) ≡ [] → Passed held a xs ps ns
+  pub passing_done : ds ≡ [] → ys ≡ [] → Passed held a xs ps ns
   unfolding pass
   passing_done e f =
       let all : declared (rest held ps) ≡ far.front = far.split ∙ rw e (append-nil far.front) in
@@ -189,52 +192,50 @@ module _ (ds es : List Decl) (ns ms : List ℕ) (room : length ns ≡ counts ds)
 among_split : {ds fs : List Decl} {d : Decl} → Among ds (d ∷ fs) → (find_decl ds d.name ≡ Some d) × Among ds fs
 among_split (one found others) = (found, others)
 
--- what was handed back so far
-pub record HandingBack (held : Program) (start caller callee : Activation) (xs i j : ℕ) : Type 0 where
-  pub state : pass_back (now_state held start) (now_state held callee) (params held callee) (passed (rest held xs)) ≡ pass_back (now_state held caller) (now_state held callee) (declared (rest held j)) (passed (rest held i))
-  pub sizes : same_sizes (names held start) (params held callee) (passed (rest held xs)) ≡ true → same_sizes (names held start) (declared (rest held j)) (passed (rest held i)) ≡ true
-  pub apart : Among (names held callee) (params held callee) → Among (names held callee) (declared (rest held j))
-  pub sized : Sized held caller
-  pub params_stay : caller.params ≡ start.params
-  pub locals_stay : caller.locals ≡ start.locals
-  pub olds_stay : caller.olds ≡ start.olds
+-- what was handed back so far; other: the program of the procedure that was called; ds, ys: what is left
+pub record HandingBack (held other : Program) (start caller callee : Activation) (xs : ℕ) (ds : List Decl) (ys : List Word) : Type 0 where
+  pub state : pass_back (now_state held start) (now_state other callee) (params other callee) (passed (rest held xs)) ≡ pass_back (now_state held caller) (now_state other callee) ds ys
+  pub sizes : same_sizes (names held start) (params other callee) (passed (rest held xs)) ≡ true → same_sizes (names held start) ds ys ≡ true
+  pub apart : Among (names other callee) (params other callee) → Among (names other callee) ds
+  pub stays : Stays start caller
 
-pub handing_none : (held : Program) (caller callee : Activation) (xs : ℕ) → Sized held caller → HandingBack held caller caller callee xs xs callee.params
-handing_none held caller callee xs sized = record { state = refl; sizes = λ h. h; apart = λ h. h; sized = sized; params_stay = refl; locals_stay = refl; olds_stay = refl }
+stays_then : {a b c : Activation} → Stays a b → Stays b c → Stays a c
+stays_then s t = record { program_stays = t.program_stays ∙ s.program_stays; params_stay = t.params_stay ∙ s.params_stay; locals_stay = t.locals_stay ∙ s.locals_stay; olds_stay = t.olds_stay ∙ s.olds_stay }
 
 among_first : {ds es fs : List Decl} {d : Decl} → es ≡ d ∷ fs → Among ds es → (find_decl ds d.name ≡ Some d) × Among ds fs
 among_first {ds} {es} {fs} {d} e h = among_split (subst (Among ds) e h)
 
-module _ (held : Program) (start caller callee : Activation) (xs i j : ℕ) (far : HandingBack held start caller callee xs i j) where
+module _ (held other : Program) (start caller callee : Activation) (xs : ℕ) (ds : List Decl) (ys : List Word) (far : HandingBack held other start caller callee xs ds ys) where
   same_names : names held caller ≡ names held start
-  same_names = rw (far.params_stay, far.locals_stay)
+  same_names = rw (far.stays.params_stay, far.stays.locals_stay)
 
-  module _ {d : Decl} {x : Word} (e : declared (rest held j) ≡ d ∷ declared (rest held (j + 2))) (f : passed (rest held i) ≡ x ∷ passed (rest held (i + 1))) where
-    pub handing_more : (after : Activation) → Handed held caller callee after d.name x → HandingBack held start after callee xs (i + 1) (j + 2)
+  -- own: the program of the caller, as it is now
+  module _ {d : Decl} {es : List Decl} {x : Word} {zs : List Word} (e : ds ≡ d ∷ es) (f : ys ≡ x ∷ zs) {own : Program} (same : own ≡ held) where
+    pub handing_more : (after : Activation) → Handed own other caller callee after d.name x → HandingBack held other start after callee xs es zs
     unfolding pass_back
-    handing_more after h =
+    handing_more after handed =
+        let P : Program → Type 0 = λ h. Handed h other caller callee after d.name x in
+        let h = subst P same handed in
         let w = h.wrote in
         record {
           state = far.state ∙ rw (e, f, h.found, w.state);
           sizes = λ s. (first_of (names held start) e f (far.sizes s)).others;
           apart = λ s. (among_first e (far.apart s)).1;
-          sized = w.sized;
-          params_stay = w.params_stay ∙ far.params_stay;
-          locals_stay = w.locals_stay ∙ far.locals_stay;
-          olds_stay = w.olds_stay ∙ far.olds_stay;
+          stays = stays_then far.stays w.stays;
         }
 
-    pub handing_unlike : Unlike (names held callee) (names held caller) d.name x → Among (names held callee) (params held callee) → same_sizes (names held start) (params held callee) (passed (rest held xs)) ≡ true → ⊥
+    pub handing_unlike : Unlike (names other callee) (names own caller) d.name x → Among (names other callee) (params other callee) → same_sizes (names held start) (params other callee) (passed (rest held xs)) ≡ true → ⊥
     handing_unlike h apart sizes =
         let q = first_of (names held start) e f (far.sizes sizes) in
-        h d q.decl (among_first e (far.apart apart)).0 (rw same_names q.found) (sym q.alike)
+        let P : Program → Type 0 = λ h. Unlike (names other callee) (names h caller) d.name x in
+        subst P same h d q.decl (among_first e (far.apart apart)).0 (rw same_names q.found) (sym q.alike)
 
-  pub handing_done : declared (rest held j) ≡ [] → passed (rest held i) ≡ [] → HandedBack held start callee caller xs
+  pub handing_done : ds ≡ [] → ys ≡ [] → HandedBack held other start callee caller xs
   unfolding pass_back
-  handing_done e f = record { state = far.state ∙ rw (e, f); sized = far.sized; params_stay = far.params_stay; locals_stay = far.locals_stay; olds_stay = far.olds_stay }
+  handing_done e f = record { state = far.state ∙ rw (e, f); stays = far.stays }
 
-  pub handing_few : {x : Word} {ys : List Word} → declared (rest held j) ≡ [] → passed (rest held i) ≡ x ∷ ys → same_sizes (names held start) (params held callee) (passed (rest held xs)) ≡ true → ⊥
+  pub handing_few : {x : Word} {zs : List Word} → ds ≡ [] → ys ≡ x ∷ zs → same_sizes (names held start) (params other callee) (passed (rest held xs)) ≡ true → ⊥
   handing_few e f sizes = no_param (names held start) e f (far.sizes sizes)
 
-  pub handing_many : {d : Decl} {es : List Decl} → declared (rest held j) ≡ d ∷ es → passed (rest held i) ≡ [] → same_sizes (names held start) (params held callee) (passed (rest held xs)) ≡ true → ⊥
+  pub handing_many : {d : Decl} {es : List Decl} → ds ≡ d ∷ es → ys ≡ [] → same_sizes (names held start) (params other callee) (passed (rest held xs)) ≡ true → ⊥
   handing_many e f sizes = no_argument (names held start) e f (far.sizes sizes)

@@ -11,7 +11,6 @@ pub mod Halting
 pub mod Acting
 pub mod Apart
 pub mod Calls
-pub mod Refusing
 pub mod Driving
 pub mod Whole
 pub mod Asking

@@ -10,7 +10,8 @@ use Rattle.lang.specs.Syntax.{Expr, BoolExpr, loop, Block}
 use Rattle.lang.specs.declared.program.Program.{Program}
 use Rattle.walk.proofs.Outlines.{behind_part, skipped}
 use Rattle.walk.specs.Walking.{first, rest}
-use Rattle.exec.specs.Parts.{span, code_ways, code_rounds, BranchLaid, LoopLaid}
+use Rattle.walk.specs.Spans.{span}
+use Rattle.exec.specs.Parts.{code_ways, code_rounds, BranchLaid, LoopLaid}
 use Rattle.exec.specs.declared.parts.Rounds.{Rounds}
 use Rattle.exec.specs.declared.parts.Ways.{Ways}
 

@@ -1,5 +1,5 @@
 -- Whole runs.
-use Rattle.std.proofs.Common.{◌≡◌, ℕ, suc, true, List, [], ◌++◌, length, drop, vec_items, Vec, sym, refl, ap, ◌∙◌, subst}
+use Rattle.std.proofs.Common.{◌≡◌, ℕ, suc, true, List, [], ◌++◌, length, drop, Some, vec_items, Vec, sym, refl, ap, ◌∙◌}
 use Rattle.std.specs.declared.alloc.Global.{Global}
 use Rattle.lang.specs.Holding.{Holds}
 use Rattle.lang.specs.Instr as instr
@@ -15,15 +15,12 @@ use Rattle.walk.specs.declared.procedures.Outline.{Outline}
 use Rattle.eval.specs.States.{state_of}
 use Rattle.exec.proofs.Apart.{proc_parts}
 use Rattle.exec.specs.Activating.{names, params, now_state, old_state}
-use Rattle.exec.specs.Framing.{stack, bottom}
+use Rattle.exec.specs.Framing.{stack, block, bottom}
 use Rattle.exec.specs.Machine.{resume}
 use Rattle.exec.specs.Outcomes.{Below, Checked, Ran, Says, begins_with, Final, Finally}
-use Rattle.exec.specs.Passing.{Begun}
-use Rattle.exec.specs.Running.{at_end_proc, Kept, Fit, none, Comes, in_block}
+use Rattle.exec.specs.Running.{at_end_proc, none, Stage, Comes, in_block}
 use Rattle.exec.specs.Starting.{Started}
 use Rattle.exec.specs.declared.frame.Frame.{Frame}
-use Rattle.exec.specs.declared.frame.Mode.TheVariants.{Block}
-use Rattle.exec.specs.declared.machine.Machine.{Machine}
 use Rattle.exec.specs.declared.outcome.Ended.{Ended as TheEnded}
 use Rattle.exec.specs.declared.outcome.Outcome.{Outcome}
 use Rattle.exec.specs.declared.outcome.Outcome.TheVariants.{Ended, Failed, Late}
@@ -32,21 +29,12 @@ pub stack_none : (v : Vec Frame Global) → vec_items v ≡ [] → stack v ≡ [
 unfolding stack
 stack_none v e = rw e
 
-pub started : (held : Program) (o : Outline) (ns ms : List ℕ) (m : Machine) → ms ≡ ns → Begun held o.params o.locals ms m.running → vec_items m.frames ≡ [] → m.taken ≡ 0 → Started held o ns m
-started held o ns ms m e begun frames taken =
-    let P : List ℕ → Type 0 = λ xs. Begun held o.params o.locals xs m.running in
-    record { begun = subst P e begun; no_frames = stack_none m.frames frames; none_taken = taken }
-
-pub started_fit : (held : Program) (o : Outline) (ns : List ℕ) (m : Machine) → Started held o ns m → Fit held m
-unfolding Kept
-started_fit held o ns m s = record { running = s.begun.sized; frames = rw s.no_frames tt }
-
 -- the first step
 begins : (p : syntax.Program) (q : Proc) (u w : ℕ) (o s t : State) (cs ds : List ℕ) → u ≡ suc w → o ≡ s → t ≡ s ++ zeros q.locals → ds ≡ cs → exec_block w p o q.body (record { state = t; choices = ds }) ≡ run_proc u p q (record { state = s; choices = cs })
 unfolding run_proc
 begins p q u w o s t cs ds is e f g = rw (is, e, f, g) refl
 
-module _ (held : Program) (i : ℕ) (ns cs : List ℕ) (u w : ℕ) (is_u : u ≡ suc w) (o : Outline) (m : Machine) (ready : Started held o ns m) where
+module _ (held : Program) (i : ℕ) (ns cs : List ℕ) (u w : ℕ) (is_u : u ≡ suc w) (o : Outline) (m : Stage) (ready : Started held o ns cs m) where
   module _ (p : syntax.Program) (q : Proc) (k : List Instr) (good : sound_proc p q ≡ true) (laid : Laid held o q k) where
     params_of : params held m.running ≡ q.params
     params_of = ap (λ n. declared (rest held n)) ready.begun.params_at ∙ laid.params
@@ -63,39 +51,37 @@ module _ (held : Program) (i : ℕ) (ns cs : List ℕ) (u w : ℕ) (is_u : u ≡
     now_of : now_state held m.running ≡ state_of q.params ns ++ zeros q.locals
     now_of = ready.begun.now_is ∙ ap (λ ds. state_of ds ns ++ zeros (declared (rest held o.locals))) laid.params ∙ ap (λ ds. state_of q.params ns ++ zeros ds) laid.locals
 
-    untaken : drop m.taken cs ≡ cs
-    untaken = rw ready.none_taken refl
-
-    pub begun_comes : Comes held cs p m (Block o.body w) (run_proc u p q (begins_with held i ns q cs))
+    pub begun_comes : Comes held p m (Some (block o.body w)) (run_proc u p q (begins_with held i ns q cs))
     unfolding resume
     begun_comes =
         let parts = proc_parts p q good in
         in_block [] q.body
-        (record { apart = rw (names_of, params_of) parts.apart; stands = rw ready.no_frames none })
+        (record { program_is = ready.begun.program_is; apart = rw (names_of, params_of) parts.apart; stands = rw ready.no_frames none })
         (record { stop = instr.end_proc; behind = k; code = laid.body; ends = at_end_proc; is_sound = rw (names_of, params_of) parts.body })
-        (begins p q u w (old_state held m.running) (state_of q.params ns) (now_state held m.running) cs (drop m.taken cs) is_u old_of now_of untaken)
+        (begins p q u w (old_state held m.running) (state_of q.params ns) (now_state held m.running) cs m.choices is_u old_of now_of ready.all_left)
 
-    -- the last machine runs the same procedure
-    last_names : (last : Machine) → (last.running.params, last.running.locals) ≡ bottom m.running (stack m.frames) → names held last.running ≡ q.params ++ q.locals
+    -- at the end the same procedure runs
+    last_names : (last : Stage) → (last.running.params, last.running.locals) ≡ bottom m.running m.frames → names held last.running ≡ q.params ++ q.locals
     unfolding bottom
     last_names last e =
         let same : (last.running.params, last.running.locals) ≡ (m.running.params, m.running.locals) = e ∙ ap (bottom m.running) ready.no_frames in
         ap (λ (x : ℕ × ℕ). declared (rest held x.0) ++ declared (rest held x.1)) same ∙ names_of
 
-    ended_says : (hold : Holds held p) (is_sound : sound p ≡ true) (e : TheEnded) → Final held cs m (Block o.body w) e → Says held i ns p q cs u (Ended e)
+    ended_says : (hold : Holds held p) (is_sound : sound p ≡ true) (e : TheEnded) → Final m (Some (block o.body w)) e → Says held i ns p q cs u (Ended e)
     ended_says hold is_sound e final =
         let last = final.last in
-        let comes = final.finished.comes p hold is_sound _ begun_comes in
-        comes ∙ ap (λ s. meaning.ok (record { state = s; choices = drop last.taken cs })) (ap (λ ds. state_of ds (vec_items last.running.numbers)) (last_names last final.finished.same_bottom) ∙ ap (state_of (q.params ++ q.locals)) (sym final.numbers)) ∙ ap (λ n. meaning.ok (record { state = state_of (q.params ++ q.locals) (vec_items e.numbers); choices = drop n cs })) (sym final.taken)
+        let comes = final.finished.comes held p hold is_sound _ begun_comes in
+        let left : last.choices ≡ drop e.taken cs = sym final.taken ∙ ap (drop e.taken) ready.all_left in
+        comes ∙ ap (λ s. meaning.ok (record { state = s; choices = last.choices })) (ap (λ ds. state_of ds (vec_items last.running.numbers)) (last_names last final.finished.same_bottom) ∙ ap (state_of (q.params ++ q.locals)) (sym final.numbers)) ∙ ap (λ ds. meaning.ok (record { state = state_of (q.params ++ q.locals) (vec_items e.numbers); choices = ds })) left
 
-    says : (hold : Holds held p) (is_sound : sound p ≡ true) (r : Outcome) → Finally held cs m (Block o.body w) r → Says held i ns p q cs u r
+    says : (hold : Holds held p) (is_sound : sound p ≡ true) (r : Outcome) → Finally m (Some (block o.body w)) r → Says held i ns p q cs u r
     says hold is_sound (Ended e) h = ended_says hold is_sound e h
-    says hold is_sound (Failed f) h = h.comes p hold is_sound _ begun_comes
-    says hold is_sound Late h = h.comes p hold is_sound _ begun_comes
+    says hold is_sound (Failed f) h = h.comes held p hold is_sound _ begun_comes
+    says hold is_sound Late h = h.comes held p hold is_sound _ begun_comes
 
-  pub ran : Checked held i ns o → (r : Outcome) → Finally held cs m (Block o.body w) r → Ran held i ns cs u r
+  pub ran : Checked held i ns o → (r : Outcome) → Finally m (Some (block o.body w)) r → Ran held i ns cs u r
   ran checked r h = record { below = checked.below; is = λ p hold is_sound q k good here. says p q k good (checked.laid q k here) hold is_sound r h }
 
-pub ran_late : (held : Program) (i : ℕ) (ns cs : List ℕ) (u : ℕ) → u ≡ 0 → Below held.width ns (length ns) → Ran held i ns cs u Late
+pub ran_late : (held : Program) (i : ℕ) (ns cs : List ℕ) (u : ℕ) → u ≡ 0 → Below held.width.0 ns (length ns) → Ran held i ns cs u Late
 unfolding run_proc
 ran_late held i ns cs u z below = record { below = below; is = λ p hold is_sound q k good here. rw z refl }

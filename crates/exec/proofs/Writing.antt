@@ -1,7 +1,7 @@
 -- Writing the numbers of names.
 use borrow.Rule.Slice.PartMut.{put_mid}
-use Rattle.std.proofs.Common.{◌≡◌, ℕ, ◌+◌, ◌<◌, ◌≤◌, eqb, List, [], ◌∷◌, ◌++◌, length, get_or, take, drop, set, Some, None, vec_items, sym, refl, ap, ◌∙◌, arith}
-use Rattle.std.proofs.lemmas.List.{length-append, length-take-le, length-drop, length-set, take_at}
+use Rattle.std.proofs.Common.{◌≡◌, ℕ, ◌+◌, ◌<◌, ◌≤◌, eqb, List, [], ◌∷◌, length, get_or, take, drop, set, Some, None, Ok, Err, Result, IfOk, vec_items, sym, refl, ap, ◌∙◌, arith}
+use Rattle.std.proofs.lemmas.List.{length-append, length-take-le, length-drop}
 use Rattle.std.proofs.lemmas.Option.{slice_get-get_or, slice_get_past}
 use Rattle.std.proofs.lemmas.Bool.{ne_eqb}
 use Rattle.std.specs.List.{slice_get}
@@ -10,17 +10,16 @@ use Rattle.lang.specs.Meaning.{scalar, element, write}
 use Rattle.lang.specs.Syntax.{Decl}
 use Rattle.lang.specs.declared.program.Program.{Program}
 use Rattle.eval.proofs.States.{values_at, values_missing, write_row, write_element, slot_fits}
-use Rattle.eval.specs.States.{counts, state_of, slot_of}
+use Rattle.eval.specs.States.{counts, state_of, slot_of, Sized}
+use Rattle.eval.specs.declared.failure.Failure.{Failure}
 use Rattle.eval.specs.declared.names.Slot.{Slot}
-use Rattle.exec.specs.Activating.{names, now_state, Sized, Wrote, Assigned, Stored}
+use Rattle.std.specs.Result.{result_ok}
+use Rattle.exec.specs.Activating.{names, now_state, Stays, Wrote, Assigned, Stored}
 use Rattle.exec.specs.declared.activation.Activation.{Activation}
 
 -- numbers written into a row
-pub length_put : (a : ℕ) (xs vs : List ℕ) → a + length vs ≤ length xs → length (put_mid a (length vs) xs vs) ≡ length xs
+length_put : (a : ℕ) (xs vs : List ℕ) → a + length vs ≤ length xs → length (put_mid a (length vs) xs vs) ≡ length xs
 length_put a xs vs h = simp (length-append, length-take-le a xs (omega arith), length-drop) (omega arith)
-
-pub refilled_copy : (n a e : ℕ) (row items ys vs : List ℕ) → row ≡ items → ys ≡ vs → n ≡ length items → a + length vs ≤ length items → e ≡ length vs → take n (put_mid a e row ys ++ drop (length (put_mid a e row ys)) items) ≡ put_mid a (length vs) items vs
-refilled_copy n a e row items ys vs is_row is_vs is_n h is_e = rw (is_row, is_vs, is_e) (take_at (put_mid a (length vs) items vs) (drop (length (put_mid a (length vs) items vs)) items) n (length_put a items vs h ∙ sym is_n))
 
 -- a name of one number
 one_number : (vs : List ℕ) → length vs ≡ 1 → when (eqb (length vs) 1) (slice_get vs 0) ≡ Some (get_or vs 0 0)
@@ -67,43 +66,50 @@ module _ (ds : List Decl) (ns : List ℕ) (x : Word) where
         let first : s.start + 0 ≡ s.start = omega arith in
         sym (ap (write (state_of ds ns) x) (sym (set_one _ v (row_length ∙ one))) ∙ write_element ds ns x s found enough 0 v (omega arith) ∙ ap (λ i. state_of ds (set ns i v)) first)
 
+-- the numbers of a name stand among all of its activation
+pub slot_within : (a : Activation) (x : Word) (r : Result Slot Failure) → result_ok r ≡ slot_of (names a.program.now a) 0 x → IfOk r (λ s. s.start + s.size ≤ length (vec_items a.numbers))
+slot_within a x (Ok s) found =
+    let long = a.sized.current in
+    slot_fits (names a.program.now a) (vec_items a.numbers) x s (sym found) (omega arith)
+slot_within a x (Err e) found = tt
+
+-- as many numbers as before, where those of a name were written
+pub still_sized : (a : Activation) (s : Slot) (vs ns : List ℕ) → s.start + s.size ≤ length (vec_items a.numbers) → length vs ≡ s.size → ns ≡ put_mid s.start (length vs) (vec_items a.numbers) vs → Sized a.program.now a.params a.locals ns (vec_items a.olds)
+still_sized a s vs ns within size e = record { current = ap length e ∙ length_put s.start (vec_items a.numbers) vs (omega arith) ∙ a.sized.current; initial = a.sized.initial }
+
 -- an activation of which only the numbers change
-module _ (held : Program) (a b : Activation) (ps : b.params ≡ a.params) (ls : b.locals ≡ a.locals) (os : b.olds ≡ a.olds) (sized : Sized held a) (x : Word) where
-  pub rewritten : (ns vs : List ℕ) → vec_items b.numbers ≡ ns → length ns ≡ length (vec_items a.numbers) → state_of (names held a) ns ≡ write (now_state held a) x vs → Wrote held a b x vs
-  rewritten ns vs e long is =
-      let same : names held b ≡ names held a = rw (ps, ls) in
-      record {
-        state = rw (same, e) is;
-        sized = record { current = rw (same, e) (long ∙ sized.current); initial = rw (ps, os) sized.initial };
-        params_stay = ps;
-        locals_stay = ls;
-        olds_stay = os;
-      }
+pub unmoved : {a b : Activation} → b.program.now ≡ a.program.now → b.params ≡ a.params → b.locals ≡ a.locals → b.olds ≡ a.olds → Stays a b
+unmoved is ps ls os = record { program_stays = is; params_stay = ps; locals_stay = ls; olds_stay = os }
+
+module _ (held : Program) (a b : Activation) (stays : Stays a b) (long : length (vec_items a.numbers) ≡ counts (names held a)) (x : Word) where
+  rewritten : (ns vs : List ℕ) → vec_items b.numbers ≡ ns → state_of (names held a) ns ≡ write (now_state held a) x vs → Wrote held a b x vs
+  rewritten ns vs e is =
+      let same : names held b ≡ names held a = rw (stays.params_stay, stays.locals_stay) in
+      record { state = rw (same, e) is; stays = stays }
 
   module _ (s : Slot) (found : slot_of (names held a) 0 x ≡ Some s) where
     pub assigned : (v : ℕ) → s.size ≡ 1 → vec_items b.numbers ≡ set (vec_items a.numbers) s.start v → Assigned held a b x v
     assigned v one e =
         record {
           before = _;
-          found = scalar_is (names held a) (vec_items a.numbers) x s found sized.current one;
-          wrote = rewritten (set (vec_items a.numbers) s.start v) (v ∷ []) e (length-set (vec_items a.numbers) s.start v) (assigns (names held a) (vec_items a.numbers) x s found sized.current one v);
+          found = scalar_is (names held a) (vec_items a.numbers) x s found long one;
+          wrote = rewritten (set (vec_items a.numbers) s.start v) (v ∷ []) e (assigns (names held a) (vec_items a.numbers) x s found long one v);
         }
 
     pub stored : (k v : ℕ) → k < s.size → vec_items b.numbers ≡ set (vec_items a.numbers) (s.start + k) v → Stored held a b x k v
     stored k v h e =
         let ns = vec_items a.numbers in
-        let enough : counts (names held a) ≤ length ns = omega (arith, sized.current) in
+        let enough : counts (names held a) ≤ length ns = omega (arith, long) in
         record {
           row = take s.size (drop s.start ns);
           before = _;
           found = values_at (names held a) ns x s found;
-          here = element_inside (names held a) ns x s found sized.current k h;
-          wrote = rewritten (set ns (s.start + k) v) _ e (length-set ns (s.start + k) v) (sym (write_element (names held a) ns x s found enough k v h));
+          here = element_inside (names held a) ns x s found long k h;
+          wrote = rewritten (set ns (s.start + k) v) _ e (sym (write_element (names held a) ns x s found enough k v h));
         }
 
     pub overwritten : (vs : List ℕ) → length vs ≡ s.size → vec_items b.numbers ≡ put_mid s.start (length vs) (vec_items a.numbers) vs → Wrote held a b x vs
-    overwritten vs long e =
+    overwritten vs size e =
         let ns = vec_items a.numbers in
-        let enough : counts (names held a) ≤ length ns = omega (arith, sized.current) in
-        let fits : s.start + length vs ≤ length ns = omega (arith, slot_fits (names held a) ns x s found enough) in
-        rewritten (put_mid s.start (length vs) ns vs) vs e (length_put s.start ns vs fits) (sym (write_row (names held a) ns x s found enough vs long ∙ ap (λ n. state_of (names held a) (put_mid s.start n ns vs)) (sym long)))
+        let enough : counts (names held a) ≤ length ns = omega (arith, long) in
+        rewritten (put_mid s.start (length vs) ns vs) vs e (sym (write_row (names held a) ns x s found enough vs size ∙ ap (λ n. state_of (names held a) (put_mid s.start n ns vs)) (sym size)))

@@ -11,7 +11,7 @@ use Rattle.lang.specs.Syntax as syntax
 use Rattle.lang.specs.Syntax.{Proc}
 use Rattle.lang.specs.declared.program.Program.{Program}
 use Rattle.walk.specs.Walking.{rest, declared, passed}
-use Rattle.exec.specs.Activating.{names, params, now_state, old_state, Sized}
+use Rattle.exec.specs.Activating.{names, params, now_state, old_state}
 use Rattle.exec.specs.declared.activation.Activation.{Activation}
 use Rattle.exec.specs.declared.calling.Called.{Called}
 use Rattle.exec.specs.declared.stop.Stop.{Stop}
@@ -30,7 +30,7 @@ module _ (held : Program) (a : Activation) (f : Word) (xs : ℕ) where
     pub starts : now_state held c.callee ≡ old_state held c.callee ++ zeros this.locals
 
   pub record Prepared (c : Called) : Type 0 where
-    pub sized : Sized held c.callee
+    pub program_is : c.callee.program.now ≡ held
     pub ready : (p : syntax.Program) → Holds held p → Ready p c
 
   -- it stops, if not for want of memory, only at a call that is not sound

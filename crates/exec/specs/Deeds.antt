@@ -10,11 +10,13 @@ use Rattle.lang.specs.Syntax.{BoolExpr}
 use Rattle.lang.specs.declared.program.Program.{Program}
 use Rattle.walk.specs.Walking.{rest, word}
 use Rattle.eval.specs.Kinds.{operand}
-use Rattle.eval.specs.Ops.{Op, Stacks, empty, top, under, code_ops, nesting, ops_nesting, apply_all}
-use Rattle.exec.specs.Activating.{now_state, old_state, Sized}
+use Rattle.eval.specs.Ops.{Op, empty, code_ops, nesting, ops_nesting, apply_all}
+use Rattle.eval.specs.Stacking.{top, under}
+use Rattle.eval.specs.declared.stacks.Stacks.{Stacks}
+use Rattle.exec.specs.Activating.{now_state, old_state, Stays}
 use Rattle.exec.specs.declared.activation.Activation.{Activation}
 use Rattle.exec.specs.declared.next.Next.{Next}
-use Rattle.exec.specs.declared.next.Next.TheVariants.{End, Work, If, While, Call, Havoc, Nothing}
+use Rattle.exec.specs.declared.next.Next.TheVariants.{Simple, If, While, Call, Havoc, Nothing}
 use Rattle.exec.specs.declared.stop.Stop.{Stop}
 use Rattle.exec.specs.declared.stop.Stop.TheVariants.{Memory, Failed, Late}
 
@@ -74,23 +76,14 @@ deed (instr.post n) = none
 deed (instr.body n) = none
 deed instr.end_proc = ends
 
-abbrev pub shown : Program → Next → Deed
-shown held End = ends
-shown held Work = works
-shown held If = tests
-shown held While = repeats
-shown held (Call f) = calls (word held f)
-shown held (Havoc x) = havocs (word held x)
-shown held Nothing = none
-
-abbrev pub is_end : Next → Bool
-is_end End = true
-is_end Work = false
-is_end If = false
-is_end While = false
-is_end (Call f) = false
-is_end (Havoc x) = false
-is_end Nothing = false
+abbrev pub shown : Program → Option Next → Deed
+shown held None = ends
+shown held (Some Simple) = works
+shown held (Some If) = tests
+shown held (Some While) = repeats
+shown held (Some (Call f)) = calls (word held f)
+shown held (Some (Havoc x)) = havocs (word held x)
+shown held (Some Nothing) = none
 
 pub data Action : Type 0 where
   assigns : Word → Action
@@ -156,28 +149,21 @@ falsely None = true
 falsely (Some b) = not b
 
 module _ (held : Program) where
-  -- The procedure that is running stays the same, but for its numbers.
-  pub record Stays (a b : Activation) : Type 0 where
-    pub params_stay : b.params ≡ a.params
-    pub locals_stay : b.locals ≡ a.locals
-    pub olds_stay : b.olds ≡ a.olds
-    pub sized : Sized held b
-
   pub record Acted (a b : Activation) (act : Action) (st : Stacks) : Type 0 where
     pub state : act_on act st (now_state held a) ≡ Some (now_state held b)
     pub stays : Stays a b
 
   -- Operations from an index on were applied to empty stacks.
   pub record Worked (a : Activation) (from r : ℕ) (st : Stacks) : Type 0 where
-    pub is : (os : List Op) (i : Instr) (k : List Instr) → rest held from ≡ code_ops os (i ∷ k) → operand i ≡ false → ops_nesting os ≤ 2 → held.width ≤ 64 → (rest held r ≡ i ∷ k) × (st ≡ apply_all held.width (now_state held a) (old_state held a) os empty)
+    pub is : (os : List Op) (i : Instr) (k : List Instr) → rest held from ≡ code_ops os (i ∷ k) → operand i ≡ false → ops_nesting os ≤ 2 → held.width.0 ≤ 64 → (rest held r ≡ i ∷ k) × (st ≡ apply_all held.width.0 (now_state held a) (old_state held a) os empty)
 
   -- A condition at an index.
   pub record Tested (a : Activation) (from r : ℕ) (value : Bool) : Type 0 where
-    pub is : (b : BoolExpr) (i : Instr) (k : List Instr) → rest held from ≡ code_bool b (i ∷ k) → operand i ≡ false → nesting b ≤ 2 → held.width ≤ 64 → (rest held r ≡ i ∷ k) × (holds held.width (now_state held a) (old_state held a) b ≡ Some value)
+    pub is : (b : BoolExpr) (i : Instr) (k : List Instr) → rest held from ≡ code_bool b (i ∷ k) → operand i ≡ false → nesting b ≤ 2 → held.width.0 ≤ 64 → (rest held r ≡ i ∷ k) × (holds held.width.0 (now_state held a) (old_state held a) b ≡ Some value)
 
   -- It cannot be told.
   pub record Untold (a : Activation) (from : ℕ) : Type 0 where
-    pub is : (b : BoolExpr) (i : Instr) (k : List Instr) → rest held from ≡ code_bool b (i ∷ k) → operand i ≡ false → nesting b ≤ 2 → held.width ≤ 64 → holds held.width (now_state held a) (old_state held a) b ≡ None
+    pub is : (b : BoolExpr) (i : Instr) (k : List Instr) → rest held from ≡ code_bool b (i ∷ k) → operand i ≡ false → nesting b ≤ 2 → held.width.0 ≤ 64 → holds held.width.0 (now_state held a) (old_state held a) b ≡ None
 
   abbrev pub Untested : Activation → ℕ → Stop → Type 0
   Untested a from Memory = Unit {0}

@@ -1,5 +1,5 @@
 -- What a run comes to, and when it is refused.
-use Rattle.std.specs.Prelude.{◌≡◌, ℕ, ◌^◌, ◌<◌, ◌≤◌, Bool, true, List, ◌++◌, length, drop, vec_items, ◌≢◌, slice_index}
+use Rattle.std.specs.Prelude.{◌≡◌, ℕ, ◌^◌, ◌<◌, ◌≤◌, Bool, true, List, ◌++◌, length, drop, vec_items, ◌≢◌, MatchOption, slice_index}
 use Rattle.lang.specs.Code.{code_proc}
 use Rattle.lang.specs.Holding.{Holds}
 use Rattle.lang.specs.Instr.{Instr}
@@ -12,9 +12,8 @@ use Rattle.lang.specs.declared.program.Program.{Program}
 use Rattle.walk.specs.Walking.{rest, declared, Laid}
 use Rattle.walk.specs.declared.procedures.Outline.{Outline}
 use Rattle.eval.specs.States.{counts, state_of}
-use Rattle.exec.specs.Running.{Finished, Halted}
-use Rattle.exec.specs.declared.frame.Mode.{Mode}
-use Rattle.exec.specs.declared.machine.Machine.{Machine}
+use Rattle.exec.specs.Framing.{Mode}
+use Rattle.exec.specs.Running.{Stage, Finished, Halted}
 use Rattle.exec.specs.declared.outcome.Ended.{Ended as TheEnded}
 use Rattle.exec.specs.declared.outcome.Outcome.{Outcome}
 use Rattle.exec.specs.declared.outcome.Outcome.TheVariants.{Ended, Failed, Late}
@@ -31,14 +30,14 @@ module _ (held : Program) (i : ℕ) (ns : List ℕ) where
   pub record Checked (o : Outline) : Type 0 where
     pub laid : (q : Proc) (k : List Instr) → rest held i ≡ code_proc q k → Laid held o q k
     pub long : length ns ≡ counts (declared (rest held o.params))
-    pub below : Below held.width ns (length ns)
+    pub below : Below held.width.0 ns (length ns)
 
   -- why it is not run
   abbrev pub Refused : Refusal → Type 0
   Refused Memory = Unit {0}
   Refused NoProcedure = (q : Proc) (k : List Instr) → rest held i ≢ code_proc q k
-  Refused (Count n) = (q : Proc) (k : List Instr) → rest held i ≡ code_proc q k → length ns ≢ counts q.params
-  Refused (NumberTooLarge j) = (j < length ns) × (2 ^ held.width ≤ slice_index ns j)
+  Refused (Count n) = (q : Proc) (k : List Instr) → rest held i ≡ code_proc q k → (length ns ≢ counts q.params) × MatchOption n (2 ^ 64 ≤ counts q.params) (λ w. w ≡ counts q.params)
+  Refused (NumberTooLarge j) = (j < length ns) × (2 ^ held.width.0 ≤ slice_index ns j)
 
   -- the run of a procedure, and its outcome
   abbrev pub begins_with : Proc → List ℕ → Run
@@ -51,21 +50,21 @@ module _ (held : Program) (i : ℕ) (ns : List ℕ) where
 
   -- The outcome is that of the procedure at the index, in each sound program.
   pub record Ran (cs : List ℕ) (u : ℕ) (o : Outcome) : Type 0 where
-    pub below : Below held.width ns (length ns)
+    pub below : Below held.width.0 ns (length ns)
     pub is : (p : syntax.Program) → Holds held p → sound p ≡ true → (q : Proc) (k : List Instr) → sound_proc p q ≡ true → rest held i ≡ code_proc q k → Says p q cs u o
 
   -- what a procedure asks for, with the numbers for its parameters
   pub record Asked (b : Bool) : Type 0 where
     pub is : (p : syntax.Program) → Holds held p → sound p ≡ true → (q : Proc) (k : List Instr) → sound_proc p q ≡ true → rest held i ≡ code_proc q k → b ≡ true_in p.width (state_of q.params ns) (state_of q.params ns) q.pre
 
--- how a machine ends
-pub record Final (held : Program) (cs : List ℕ) (m : Machine) (mode : Mode) (e : TheEnded) : Type 0 where
-  pub last : Machine
-  pub finished : Finished held cs m mode last
+-- how a run ends
+pub record Final (s : Stage) (mode : Mode) (e : TheEnded) : Type 0 where
+  pub last : Stage
+  pub finished : Finished s mode last
   pub numbers : vec_items e.numbers ≡ vec_items last.running.numbers
-  pub taken : e.taken ≡ last.taken
+  pub taken : drop e.taken s.choices ≡ last.choices
 
-abbrev pub Finally : Program → List ℕ → Machine → Mode → Outcome → Type 0
-Finally held cs m mode (Ended e) = Final held cs m mode e
-Finally held cs m mode (Failed f) = Halted held cs m mode (stop.Failed f)
-Finally held cs m mode Late = Halted held cs m mode stop.Late
+abbrev pub Finally : Stage → Mode → Outcome → Type 0
+Finally s mode (Ended e) = Final s mode e
+Finally s mode (Failed f) = Halted s mode (stop.Failed f)
+Finally s mode Late = Halted s mode stop.Late

@@ -7,7 +7,7 @@ use Rattle.lang.specs.Syntax.{Decl}
 use Rattle.lang.specs.declared.program.Program.{Program}
 use Rattle.walk.specs.Walking.{rest, declared, passed}
 use Rattle.eval.specs.States.{counts, state_of}
-use Rattle.exec.specs.Activating.{params, now_state, old_state, Sized, Wrote}
+use Rattle.exec.specs.Activating.{params, now_state, old_state, Stays, Wrote}
 use Rattle.exec.specs.declared.activation.Activation.{Activation}
 use Rattle.exec.specs.declared.stop.Stop.{Stop}
 use Rattle.exec.specs.declared.stop.Stop.TheVariants.{Memory, Failed, Late}
@@ -15,9 +15,9 @@ use Rattle.exec.specs.declared.stop.Stop.TheVariants.{Memory, Failed, Late}
 module _ (held : Program) where
   -- A procedure has begun, its parameters with the numbers ns.
   pub record Begun (ps ls : ℕ) (ns : List ℕ) (a : Activation) : Type 0 where
+    pub program_is : a.program.now ≡ held
     pub params_at : a.params ≡ ps
     pub locals_at : a.locals ≡ ls
-    pub sized : Sized held a
     pub old_is : old_state held a ≡ state_of (declared (rest held ps)) ns
     pub now_is : now_state held a ≡ state_of (declared (rest held ps)) ns ++ zeros (declared (rest held ls))
 
@@ -26,18 +26,17 @@ module _ (held : Program) where
     pub long : length ns ≡ counts (declared (rest held ps))
     pub state : pass (now_state held a) (declared (rest held ps)) (passed (rest held xs)) ≡ Some (state_of (declared (rest held ps)) ns)
 
+-- The caller's program, and that of the procedure that was called.
+module _ (held other : Program) where
   -- A parameter's numbers were handed back to an argument.
   pub record Handed (caller callee after : Activation) (param argument : Word) : Type 0 where
     pub values : List ℕ
-    pub found : values_of (now_state held callee) param ≡ Some values
+    pub found : values_of (now_state other callee) param ≡ Some values
     pub wrote : Wrote held caller after argument values
 
   pub record HandedBack (caller callee after : Activation) (xs : ℕ) : Type 0 where
-    pub state : pass_back (now_state held caller) (now_state held callee) (params held callee) (passed (rest held xs)) ≡ Some (now_state held after)
-    pub sized : Sized held after
-    pub params_stay : after.params ≡ caller.params
-    pub locals_stay : after.locals ≡ caller.locals
-    pub olds_stay : after.olds ≡ caller.olds
+    pub state : pass_back (now_state held caller) (now_state other callee) (params other callee) (passed (rest held xs)) ≡ Some (now_state held after)
+    pub stays : Stays caller after
 
 -- two names that do not have as many numbers as each other
 abbrev pub Unlike : List Decl → List Decl → Word → Word → Type 0

@@ -5,47 +5,41 @@ ghost use Rattle.exec.specs.Framing.{stack};
 use crate::activation::Activation;
 use std::alloc::AllocError;
 
-// Each with the fuel with which to go on.
-#[derive(Drop)]
-pub enum Frame {
-    // the statements from an index on
-    Rest {
-        at: usize,
-        fuel: u64,
-    },
-    // the loop at an index
-    Again {
-        at: usize,
-        fuel: u64,
-    },
-    // behind a call: whose it was, where its arguments stand, and what comes behind it
-    Return {
-        caller: Activation,
-        arguments: usize,
-        at: usize,
-        fuel: u64,
-    },
-}
-
-// What is done next.
+// An index of the code, and the fuel with which a run goes on there.
 #[derive(Clone, Copy)]
-pub enum Mode {
-    // the statements from an index on
-    Block { at: usize, fuel: u64 },
-    // the loop at an index
-    Loop { at: usize, fuel: u64 },
-    // what the last frame says
-    Done,
+pub struct Point {
+    pub at: usize,
+    pub fuel: u64,
 }
 
-pub fn push(frames: &mut Vec<Frame>, frame: Frame) -> Result<(), AllocError>
+#[derive(Clone, Copy)]
+pub enum Work {
+    // the statements from a point on
+    Block(Point),
+    // the loop at a point
+    Loop(Point),
+}
+
+#[derive(Drop)]
+pub enum Frame<'p> {
+    Go(Work),
+    // behind a call: whose it was, where its arguments stand, and where the statements go on
+    Return {
+        caller: Activation<'p>,
+        arguments: usize,
+        behind: Point,
+    },
+}
+
+// Not the row's own `push` and `pop`: proofs speak of frames with the last one first.
+pub fn push<T: Drop>(frames: &mut Vec<T>, frame: T) -> Result<(), AllocError>
     ensures { OnOk result (stack frames.new ≡ frame ∷ stack frames.old) }
 {
     frames.push(frame)?;
     Ok(())
 }
 
-pub fn pop(frames: &mut Vec<Frame>) -> Option<Frame>
+pub fn pop<T>(frames: &mut Vec<T>) -> Option<T>
     ensures { MatchOption result (stack frames.old ≡ []) (λ f. stack frames.old ≡ f ∷ stack frames.new) }
 {
     frames.pop()

@@ -1,11 +1,11 @@
 // Running a procedure.
 #![tactic(auto)]
 
-ghost use Rattle.std.specs.Prelude.{◌≡◌, length, IfOk, MatchResult};
+ghost use Rattle.std.specs.Prelude.{◌≡◌, length, Some, IfOk, MatchResult};
 ghost use Rattle.walk.specs.Walking.{rest, declared};
 ghost use Rattle.eval.specs.States.{counts};
 ghost use Rattle.exec.specs.Outcomes as outcomes;
-ghost use Rattle.exec.specs.Running.{Fit};
+ghost use Rattle.exec.specs.Running.{stage};
 ghost use Rattle.exec.specs.Starting.{Started};
 ghost use Rattle.exec.specs.declared.outcome.Refusal.TheVariants.{Memory};
 
@@ -26,8 +26,7 @@ mod steps;
 pub mod stop;
 mod working;
 
-use crate::activation::Activation;
-use crate::frame::Mode;
+use crate::frame::{Point, Work};
 use crate::machine::Machine;
 use crate::outcome::{Ended, Outcome, Refusal};
 use crate::stop::Stop;
@@ -38,57 +37,38 @@ use walk;
 use walk::procedures::Outline;
 
 // A machine at the beginning of a procedure.
-fn start(
+fn start<'p>(
     heap: Global,
-    program: &Program<'_>,
+    program: &'p Program<'p>,
     o: Outline,
     numbers: &[u64],
-) -> Result<Machine, AllocError>
+    choices: &'p [u64],
+) -> Result<Machine<'p>, AllocError>
     requires { length numbers.now ≡ counts (declared (rest program.now o.params)) }
-    ensures { IfOk result (λ m. Started program.now o numbers.now m) }
+    ensures { IfOk result (λ m. Started program.now o numbers.now choices.now (stage m)) }
 {
     let first = Vec::from_slice(heap, numbers)?;
     let running = passing::begin(heap, program, o.params, o.locals, first)?;
     Ok(Machine {
+        heap,
         running,
         frames: Vec::new(heap),
-        taken: 0,
+        stacks: Stacks::new(heap),
+        choices,
     })
 }
 
-// What a machine leaves that has ended.
-fn left(machine: Machine) -> Ended
-    ensures numbers { result.numbers ≡ machine.running.numbers }
-    ensures taken { result.taken ≡ machine.taken }
-{
-    let Machine {
-        running,
-        frames: _,
-        taken,
-    } = machine;
-    let Activation {
-        params: _,
-        locals: _,
-        numbers,
-        olds: _,
-    } = running;
-    Ended { numbers, taken }
-}
-
 // What the machine comes to.
-fn finish(
-    heap: Global,
-    machine: Machine,
-    program: &Program<'_>,
-    choices: &[u64],
-    mode: Mode,
-) -> Result<Outcome, Refusal>
-    requires { Fit program.now machine }
-    ensures { MatchResult result (λ o. outcomes.Finally program.now choices.now machine mode o) (λ e. e ≡ Memory) }
+fn finish(machine: Machine<'_>, begin: Work) -> Result<Outcome, Refusal>
+    ensures { MatchResult result (λ o. outcomes.Finally (stage machine.entry) (Some begin) o) (λ e. e ≡ Memory) }
 {
+    let given = machine.choices.len();
     let mut last = machine;
-    match running::drive(heap, &mut last, program, choices, mode) {
-        Ok(()) => Ok(Outcome::Ended(left(last))),
+    match last.drive(begin) {
+        Ok(()) => Ok(Outcome::Ended(Ended {
+            taken: given - last.choices.len(),
+            numbers: last.running.numbers,
+        })),
         Err(Stop::Failed(failure)) => Ok(Outcome::Failed(failure)),
         Err(Stop::Late) => Ok(Outcome::Late),
         Err(Stop::Memory) => Err(Refusal::Memory),
@@ -110,12 +90,12 @@ pub fn run(
     if fuel == 0 {
         return Ok(Outcome::Late);
     }
-    let machine = start(heap, program, o, numbers)?;
-    let mode = Mode::Block {
+    let machine = start(heap, &*program, o, numbers, choices)?;
+    let begin = Work::Block(Point {
         at: o.body,
         fuel: fuel - 1,
-    };
-    finish(heap, machine, program, choices, mode)
+    });
+    finish(machine, begin)
 }
 
 // Is what the procedure at an index asks for so, with numbers for its parameters?
@@ -128,16 +108,12 @@ pub fn holds_before(
     ensures { MatchResult result (λ b. outcomes.Asked program.now procedure numbers.now b) (λ e. outcomes.Refused program.now procedure numbers.now e) }
 {
     let o = entry::check(program, procedure, numbers)?;
-    let head = Outline {
-        params: o.params,
-        head: o.head,
-        locals: walk::len(program),
-        body: o.body,
-    };
-    let machine = start(heap, program, head, numbers)?;
+    let first = Vec::from_slice(heap, numbers)?;
+    // No local is known before: nothing is declared at the end of the code.
+    let running = passing::begin(heap, &*program, o.params, walk::len(program), first)?;
     let from = walk::skip(program, o.head, 1);
     let mut stacks = Stacks::new(heap);
-    match working::truth(&mut stacks, &*program, &machine.running, from) {
+    match running.truth(&mut stacks, from) {
         Ok(test) => Ok(test.value),
         Err(Stop::Memory) => Err(Refusal::Memory),
         Err(Stop::Failed(_)) => Ok(false),

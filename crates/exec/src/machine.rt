@@ -1,11 +1,15 @@
 // A run that is under way.
 use crate::activation::Activation;
 use crate::frame::Frame;
+use eval::stacks::Stacks;
+use std::alloc::Global;
 
-// taken: how many choices were.
+// choices: those that are left.
 #[derive(Drop)]
-pub struct Machine {
-    pub running: Activation,
-    pub frames: Vec<Frame>,
-    pub taken: usize,
+pub struct Machine<'p> {
+    pub heap: Global,
+    pub running: Activation<'p>,
+    pub frames: Vec<Frame<'p>>,
+    pub stacks: Stacks,
+    pub choices: &'p [u64],
 }

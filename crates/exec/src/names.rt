@@ -1,73 +1,62 @@
 // Reading and writing the names of a procedure that has begun.
-ghost use Rattle.std.specs.Prelude.{◌≡◌, ◌^◌, ◌<◌, [], ◌∷◌, length, is_some, Some, None, MatchResult};
+ghost use Rattle.std.specs.Prelude.{◌≡◌, ◌+◌, ◌≤◌, length, None, IfOk, MatchResult};
 ghost use Rattle.std.specs.Option.{option_map};
 ghost use Rattle.std.specs.Result.{result_ok};
 ghost use Rattle.lang.specs.Meaning as meaning;
-ghost use Rattle.walk.specs.Walking.{word};
 ghost use Rattle.eval.specs.States.{slot_of};
-ghost use Rattle.exec.specs.Activating.{names, now_state, Sized, Wrote, Assigned, Stored};
+ghost use Rattle.exec.specs.Activating.{names, now_state, Assigned, Stored};
 
 use crate::activation::Activation;
-use crate::numbers;
 use eval::failure::{Failure, Reason};
 use eval::names::{Slot, slot_of};
 use lang::code::Place;
-use lang::program::Program;
+use walk::name::Name;
 
 // Does not happen in a sound program.
 pub fn undefined(at: Place) -> Failure
     ensures { result ≡ record { at = at; reason = Reason.Undefined } }
 {
-    Failure {
-        at,
-        reason: Reason::Undefined,
-    }
+    Reason::Undefined.at(at)
 }
 
-// Where the numbers of a name stand.
-pub fn slot(running: &Activation, program: &Program<'_>, name: Place) -> Result<Slot, Failure>
-    requires { Sized program.now running.now }
-    ensures { result_ok result ≡ slot_of (names program.now running.now) 0 (word program.now name) }
-{
-    slot_of(program, running.params, running.locals, name).ok_or(undefined(name))
-}
-
-// Gives a number to a name of one.
-pub fn assign(
-    running: &mut Activation,
-    program: &Program<'_>,
-    name: Place,
-    value: u64,
-) -> Result<(), Failure>
-    requires { Sized program.now running.old }
-    ensures { MatchResult result (λ _. Assigned program.now running.old running.new (word program.now name) value) (λ _. meaning.scalar (now_state program.now running.old) (word program.now name) ≡ None) }
-{
-    let slot = slot(running, program, name)?;
-    if slot.size != 1 {
-        return Err(undefined(name));
+impl Activation<'_> {
+    // Where the numbers of a name stand.
+    pub(crate) fn slot(&self, name: Name<'_>) -> Result<Slot, Failure>
+        ensures found { result_ok result ≡ slot_of (names self.now.program.now self.now) 0 name.entry.text.now }
+        ensures within { IfOk result (λ s. s.start + s.size ≤ length self.now.numbers.items) }
+    {
+        slot_of(self.program, self.params, self.locals, name.text).ok_or(undefined(name.at))
     }
-    numbers::put(&mut running.numbers, slot.start, value);
-    Ok(())
-}
 
-// Gives a number to a place of a row.
-pub fn store(
-    running: &mut Activation,
-    program: &Program<'_>,
-    name: Place,
-    place: u64,
-    value: u64,
-) -> Result<(), Failure>
-    requires { Sized program.now running.old }
-    ensures { MatchResult result (λ _. Stored program.now running.old running.new (word program.now name) place value) (λ _. meaning.element (now_state program.now running.old) (word program.now name) place ≡ None) }
-{
-    let slot = slot(running, program, name)?;
-    if place as usize >= slot.size {
-        return Err(Failure {
-            at: name,
-            reason: Reason::OutsideRow,
-        });
+    // The numbers of a name.
+    pub(crate) fn row(&self, name: Name<'_>) -> Result<&[u64], Failure>
+        ensures { option_map (λ x. x.now) (result_ok result) ≡ meaning.values_of (now_state self.now.program.now self.now) name.entry.text.now }
+    {
+        let slot = self.slot(name)?;
+        Ok(slot.part(self.numbers.as_slice()))
     }
-    numbers::put(&mut running.numbers, slot.start + place as usize, value);
-    Ok(())
+
+    // Gives a number to a name of one.
+    pub(crate) fn assign(&mut self, name: Name<'_>, value: u64) -> Result<(), Failure>
+        ensures { let held = self.old.program.now in MatchResult result (λ _. Assigned held self.old self.new name.entry.text.now value) (λ _. meaning.scalar (now_state held self.old) name.entry.text.now ≡ None) }
+    {
+        let slot = self.slot(name)?;
+        if slot.size != 1 {
+            return Err(undefined(name.at));
+        }
+        self.numbers[slot.start] = value;
+        Ok(())
+    }
+
+    // Gives a number to a place of a row.
+    pub(crate) fn store(&mut self, name: Name<'_>, place: u64, value: u64) -> Result<(), Failure>
+        ensures { let held = self.old.program.now in MatchResult result (λ _. Stored held self.old self.new name.entry.text.now place value) (λ _. meaning.element (now_state held self.old) name.entry.text.now place ≡ None) }
+    {
+        let slot = self.slot(name)?;
+        if place as usize >= slot.size {
+            return Err(Reason::OutsideRow.at(name.at));
+        }
+        self.numbers[slot.start + place as usize] = value;
+        Ok(())
+    }
 }

@@ -7,29 +7,29 @@ use lang::code::{Node, Place};
 use lang::program::Program;
 use walk;
 
+// A match over them, no closures: which it is, is said by the code's definition, and the check sees that none is left out.
 #[derive(Clone, Copy)]
 pub enum Next {
-    // the end of the statements that stand one after the other
-    End,
     // an expression, and what is done with it
-    Work,
+    Simple,
     If,
     While,
     Call(Place),
     Havoc(Place),
-    // none of these: does not happen in a program that was read
+    // no statement: does not happen in a program that was read
     Nothing,
 }
 
-pub fn next_at(program: &Program<'_>, i: usize) -> Next
+// The statement at an index; none at the end of statements that stand one after the other.
+pub fn next_at(program: &Program<'_>, i: usize) -> Option<Next>
     ensures { shown program.now result ≡ deed (first (rest program.now i)) }
 {
     match walk::at(program, i) {
-        Node::Else(_) | Node::EndIf | Node::EndWhile | Node::EndProc => Next::End,
-        Node::If(_) => Next::If,
-        Node::While(_) => Next::While,
-        Node::Call(f) => Next::Call(f),
-        Node::Havoc(x) => Next::Havoc(x),
+        Node::Else(_) | Node::EndIf | Node::EndWhile | Node::EndProc => None,
+        Node::If(_) => Some(Next::If),
+        Node::While(_) => Some(Next::While),
+        Node::Call(f) => Some(Next::Call(f)),
+        Node::Havoc(x) => Some(Next::Havoc(x)),
         Node::Num(_)
         | Node::Var(_)
         | Node::Old(_)
@@ -42,7 +42,7 @@ pub fn next_at(program: &Program<'_>, i: usize) -> Next
         | Node::Or(_)
         | Node::Implies(_)
         | Node::Not(_)
-        | Node::All(_) => Next::Work,
-        _ => Next::Nothing,
+        | Node::All(_) => Some(Next::Simple),
+        _ => Some(Next::Nothing),
     }
 }

@@ -21,17 +21,18 @@ pub enum Outcome {
 }
 
 // Why a run is not begun, or not finished.
-#[derive(Clone, Copy, Debug)]
+#[derive(Clone, Copy, Debug, PartialEq, Eq)]
 pub enum Refusal {
     Memory,
     // no procedure stands at the index
     NoProcedure,
-    // its parameters have another count of numbers
-    Count { wanted: usize },
+    // its parameters have another count of numbers, or more than can be counted
+    Count { wanted: Option<usize> },
     // a number is not one of the width
     NumberTooLarge { index: usize },
 }
 
+// By hand, not by a derive: proofs read off `from_gives` what a `?` hands on.
 impl From<AllocError> for Refusal {
     ghost from_gives = { λ _ r. r ≡ Memory };
 

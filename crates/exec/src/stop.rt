@@ -13,6 +13,7 @@ pub enum Stop {
     Late,
 }
 
+// By hand, not by a derive: proofs read off `from_gives` what a `?` hands on.
 impl From<AllocError> for Stop {
     ghost from_gives = { λ _ r. r ≡ Memory };
 
