@@ -1,8 +1,8 @@
 //! Runs the commands of cases.txt, one on each line, and prints each with what comes of it.
 #![tactic(auto)]
 
+use runner::answer::Answer;
 use runner::command::command;
-use runner::request::Stop;
 use std::alloc::{AllocError, Global};
 use std::{fs, io};
 
@@ -18,9 +18,11 @@ fn show(rt: &HostRuntime, line: &str) -> io::Result<()> {
     println!(rt; "> run {line}")?;
     let words = words(rt.alloc(), line)?;
     match command(rt, &words) {
-        Ok(answer) => print!(rt; "{}{}", answer.note, answer.output),
-        Err(Stop::Refused(message)) => println!(rt; "{message}"),
-        Err(Stop::Memory) => println!(rt; "out of memory"),
+        Ok(Answer { note, outcome }) => {
+            let (Ok(text) | Err(text)) = outcome;
+            print!(rt; "{note}{text}")
+        }
+        Err(stop) => println!(rt; "{stop}"),
     }
 }
 

@@ -1,8 +1,8 @@
 //! The command `run`: reads a program, and runs one of its procedures.
 #![tactic(auto)]
 
+use runner::answer::Answer;
 use runner::command::command;
-use runner::request::Stop;
 use std::process::ExitCode;
 use std::{env, io};
 
@@ -18,21 +18,17 @@ fn words(rt: &HostRuntime) -> io::Result<Vec<String>> {
 fn main(rt: HostRuntime) -> io::Result<ExitCode> {
     let words = words(&rt)?;
     match command(&rt, &words) {
-        Ok(answer) => {
-            eprint!(&rt; "{}", answer.note)?;
-            print!(&rt; "{}", answer.output)?;
-            Ok(if answer.ended {
-                ExitCode::SUCCESS
-            } else {
-                ExitCode::FAILURE
-            })
+        Ok(Answer { note, outcome }) => {
+            eprint!(&rt; "{note}")?;
+            let (text, status) = match outcome {
+                Ok(text) => (text, ExitCode::SUCCESS),
+                Err(text) => (text, ExitCode::FAILURE),
+            };
+            print!(&rt; "{text}")?;
+            Ok(status)
         }
-        Err(Stop::Refused(message)) => {
-            eprintln!(&rt; "{message}")?;
-            Ok(ExitCode::FAILURE)
-        }
-        Err(Stop::Memory) => {
-            eprintln!(&rt; "out of memory")?;
+        Err(stop) => {
+            eprintln!(&rt; "{stop}")?;
             Ok(ExitCode::FAILURE)
         }
     }

@@ -2,7 +2,7 @@
 ghost use Rattle.std.specs.Prelude.{◌≡◌};
 
 use crate::parameters;
-use crate::request::{Request, Stop, number};
+use crate::request::{Run, Stop, number};
 use eval::failure::Failure;
 use exec;
 use exec::outcome::{Outcome, Refusal};
@@ -10,17 +10,17 @@ use lang::position::position_of;
 use lang::program::Program;
 use parse;
 use parse::ReadError;
-use report;
+use report::Source;
 use sound;
-use std::alloc::Global;
+use std::alloc::{AllocError, Global};
 use walk::procedures;
 
 #[derive(Drop)]
 pub struct Answer {
     // what is told beside the outcome
     pub note: String,
-    pub output: String,
-    pub ended: bool,
+    // what is printed of a run that ended, or of one that failed or is late
+    pub outcome: Result<String, String>,
 }
 
 pub fn refused<T>(message: String) -> Result<T, Stop>
@@ -29,13 +29,97 @@ pub fn refused<T>(message: String) -> Result<T, Stop>
     Err(Stop::Refused(message))
 }
 
-// The numbers among the words, behind FILE and PROC.
-fn numbers(heap: Global, words: &[String]) -> Result<Vec<u64>, Stop> {
-    let mut out = Vec::new(heap);
-    for word in words.iter().skip(2) {
-        out.push(number(heap, word.as_str())?)?;
+fn note(heap: Global, holds: bool) -> Result<String, AllocError> {
+    if holds {
+        Ok(String::new(heap))
+    } else {
+        String::from_str(heap, "note: the precondition is not so of these numbers\n")
     }
-    Ok(out)
+}
+
+// A run of the procedure at an index.
+#[derive(Clone, Copy)]
+struct Call<'a> {
+    heap: Global,
+    program: &'a Program<'a>,
+    at: usize,
+    run: &'a Run<'a>,
+}
+
+impl Call<'_> {
+    fn params(&self) -> usize {
+        procedures::outline_at(self.program, self.at).params
+    }
+
+    // Why it is refused.
+    fn refusal<T>(&self, e: Refusal) -> Result<T, Stop> {
+        let heap = self.heap;
+        match e {
+            Refusal::Memory => Err(Stop::Memory(AllocError)),
+            Refusal::NoProcedure => {
+                refused(String::from_str(heap, "there is no procedure at this place")?)
+            }
+            Refusal::Count { wanted } => {
+                // A count that no `usize` holds is told as the largest.
+                let wanted = wanted.unwrap_or(usize::MAX);
+                let given = self.run.numbers.len();
+                let params = parameters::signature(heap, self.program, self.params())?;
+                refused(format!(in heap;
+                    "{given} numbers are given: expected {wanted}, for the parameters ({params})"
+                )?)
+            }
+            Refusal::NumberTooLarge { index } => {
+                let place = index.saturating_add(1);
+                let width = self.program.width;
+                refused(format!(in heap;
+                    "number {place} is too large: expected numbers of {width} bits"
+                )?)
+            }
+        }
+    }
+
+    fn failed(&self, failure: Failure) -> Result<String, AllocError> {
+        let line = position_of(self.program.text, failure.at.0).line;
+        let reason = failure.reason;
+        format!(in self.heap; "failed: line {line}: {reason}\n")
+    }
+
+    // What is printed of it.
+    fn printed(&self, outcome: Outcome) -> Result<Result<String, String>, Stop> {
+        let heap = self.heap;
+        match outcome {
+            Outcome::Ended(end) => Ok(Ok(parameters::values(
+                heap,
+                self.program,
+                self.params(),
+                &end.numbers,
+            )?)),
+            Outcome::Failed(failure) => Ok(Err(self.failed(failure)?)),
+            Outcome::Late => Ok(Err(String::from_str(heap, "late\n")?)),
+        }
+    }
+
+    fn answer(&self) -> Result<Answer, Stop> {
+        let Call {
+            heap,
+            program,
+            at,
+            run,
+        } = *self;
+        let numbers: Vec<u64> = run
+            .numbers
+            .iter()
+            .map(|word| number(heap, *word))
+            .try_collect(heap)?;
+        let holds = exec::holds_before(heap, program, at, &numbers).or_else(|e| self.refusal(e))?;
+        let outcome = exec::run(heap, program, at, &numbers, &run.choices, run.fuel).or_else(
+            |e| self.refusal(e),
+        )?;
+        Ok(Answer {
+            note: note(heap, holds)?,
+            outcome: self.printed(outcome)?,
+        })
+    }
 }
 
 // Where the procedure of that name is.
@@ -49,118 +133,34 @@ fn procedure(heap: Global, program: &Program<'_>, name: &str) -> Result<usize, S
     }
 }
 
-fn failed(heap: Global, text: &[u8], failure: Failure) -> Result<String, Stop> {
-    let line = position_of(text, failure.at.0).line;
-    let reason = failure.reason;
-    Ok(format!(in heap; "failed: line {line}: {reason}\n")?)
-}
-
-// Why a run was refused.
-fn refusal<T>(
-    heap: Global,
-    program: &Program<'_>,
-    at: usize,
-    request: &Request,
-    e: Refusal,
-) -> Result<T, Stop> {
-    match e {
-        Refusal::Memory => Err(Stop::Memory),
-        Refusal::NoProcedure => {
-            refused(String::from_str(heap, "there is no procedure at this place")?)
-        }
-        Refusal::Count { wanted } => {
-            let params = parameters::signature(
-                heap,
-                program,
-                procedures::outline_at(program, at).params,
-            )?;
-            let given = request.words.len().saturating_sub(2);
-            refused(format!(in heap;
-                "{given} numbers are given: expected {wanted}, for the parameters ({params})"
-            )?)
-        }
-        Refusal::NumberTooLarge { index } => {
-            let place = index.saturating_add(1);
-            let width = program.width;
-            refused(format!(in heap;
-                "number {place} is too large: expected numbers of {width} bits"
-            )?)
-        }
-    }
-}
-
-fn note(heap: Global, holds: bool) -> Result<String, Stop> {
-    if holds {
-        return Ok(String::new(heap));
-    }
-    Ok(String::from_str(heap, "note: the precondition is not so of these numbers\n")?)
-}
-
-// Runs the procedure at an index.
-fn run_at(
-    heap: Global,
-    program: &Program<'_>,
-    at: usize,
-    request: &Request,
-) -> Result<Answer, Stop> {
-    let numbers = numbers(heap, &request.words)?;
-    let holds = match exec::holds_before(heap, program, at, &numbers) {
-        Ok(holds) => holds,
-        Err(e) => return refusal(heap, program, at, request, e),
-    };
-    let note = note(heap, holds)?;
-    match exec::run(heap, program, at, &numbers, &request.choices, request.fuel) {
-        Ok(Outcome::Ended(end)) => {
-            let params = procedures::outline_at(program, at).params;
-            let output = parameters::values(heap, program, params, &end.numbers)?;
-            Ok(Answer {
-                note,
-                output,
-                ended: true,
-            })
-        }
-        Ok(Outcome::Failed(failure)) => {
-            let output = failed(heap, program.text, failure)?;
-            Ok(Answer {
-                note,
-                output,
-                ended: false,
-            })
-        }
-        Ok(Outcome::Late) => {
-            let output = String::from_str(heap, "late\n")?;
-            Ok(Answer {
-                note,
-                output,
-                ended: false,
-            })
-        }
-        Err(e) => refusal(heap, program, at, request, e),
-    }
-}
-
 // How many words reading a text of so many bytes takes.
 fn words_for(bytes: usize) -> usize {
     bytes.saturating_mul(6).saturating_add(64)
 }
 
 // Reads the text of the file that is asked for, and runs the procedure.
-pub fn answer_to(
-    heap: Global,
-    request: &Request,
-    file: &str,
-    name: &str,
-    text: &[u8],
-) -> Result<Answer, Stop> {
+pub fn answer_to(heap: Global, run: &Run<'_>, text: &[u8]) -> Result<Answer, Stop> {
+    let source = Source {
+        file: run.file,
+        text,
+    };
     let mut words = vec![in heap; 0u64; words_for(text.len())]?;
+    // A match, since nothing is known of what a closure returns that holds the source.
     let program = match parse::read(text, &mut words) {
         Ok(program) => program,
-        Err(ReadError::NoText(e)) => return refused(report::no_text(heap, file, text, e)?),
-        Err(ReadError::Few) => return Err(Stop::Memory),
+        Err(ReadError::NoText(e)) => return refused(source.no_text(heap, e)?),
+        Err(ReadError::Few) => return Err(Stop::Memory(AllocError)),
     };
+    // As above.
     if let Err(e) = sound::check(&program) {
-        return refused(report::not_sound(heap, file, text, e)?);
+        return refused(source.not_sound(heap, e)?);
     }
-    let at = procedure(heap, &program, name)?;
-    run_at(heap, &program, at, request)
+    let at = procedure(heap, &program, run.procedure)?;
+    let call = Call {
+        heap,
+        program: &program,
+        at,
+        run,
+    };
+    call.answer()
 }

@@ -1,86 +1,72 @@
 // Procedures and their parameters, written out.
-use crate::request::Stop;
-use lang::code::Place;
+ghost use Rattle.std.specs.Prelude.{◌≡◌, Some, map, IfOk, string_bytes};
+ghost use Rattle.lang.specs.Holding.{Holds};
+ghost use Rattle.lang.specs.Syntax as syntax;
+ghost use Rattle.runner.specs.Written.{declared_text, names_text, numbers_text, signature_text, values_text};
+ghost use Rattle.walk.specs.Shapes.{size_of};
+ghost use Rattle.walk.specs.Walking.{decl, declared, rest};
+
+use bstr::BStr;
+use itertools::Itertools;
 use lang::program::Program;
-use lang::scan;
-use std::alloc::Global;
+use std::alloc::{AllocError, Global};
+use std::fmt;
 use walk::declarations::Declaration;
+use walk::shape::Shape;
 use walk::{declarations, procedures};
 
-fn push_name(
-    heap: Global,
-    out: &mut String,
-    program: &Program<'_>,
-    name: Place,
-) -> Result<(), Stop> {
-    let word = String::from_utf8_lossy(heap, scan::name(program.text, name.0))?;
-    out.push_str(word.as_str())?;
-    Ok(())
-}
-
 // The names of all procedures.
-pub fn procedure_names(heap: Global, program: &Program<'_>) -> Result<String, Stop> {
-    let mut out = String::new(heap);
-    let mut i = 0;
-    while let Some(f) = procedures::at(program, i) {
-        if i > 0 {
-            out.push_str(", ")?;
-        }
-        push_name(heap, &mut out, program, f.name)?;
-        i = f.next;
-    }
-    Ok(out)
+pub fn procedure_names(heap: Global, program: &Program<'_>) -> Result<String, AllocError>
+    ensures { (p : syntax.Program) → Holds program.now p → IfOk result (λ s. string_bytes s ≡ names_text (map (λ q. q.name) p.procs)) }
+{
+    procedures::from(&*program, 0)
+        .map(|procedure| BStr::new(procedure.name.text))
+        .join(heap, ", ")
 }
 
-fn push_size(heap: Global, out: &mut String, d: Declaration) -> Result<(), Stop> {
-    let size = d.size;
-    if size > 0 {
-        out.push_str(format!(in heap; "[{size}]")?.as_str())?;
+// A parameter, as it is declared.
+#[derive(Clone, Copy)]
+struct Parameter<'p>(Declaration<'p>);
+
+impl fmt::Display for Parameter<'_> {
+    ghost output = { λ p. Some (declared_text (decl p.0)) };
+
+    fn fmt<W: fmt::Write>(&self, f: &mut fmt::Formatter<W>) -> fmt::Result {
+        let name = BStr::new(self.0.name.text);
+        match self.0.shape {
+            Shape::Scalar => write!(f, "{name}"),
+            Shape::Row(length) => write!(f, "{name}[{length}]"),
+        }
     }
-    Ok(())
 }
 
 // The parameters from an index on, as they are declared.
-pub fn signature(heap: Global, program: &Program<'_>, params: usize) -> Result<String, Stop> {
-    let mut out = String::new(heap);
-    let mut i = params;
-    while let Some(d) = declarations::at(program, i) {
-        if i > params {
-            out.push_str(", ")?;
-        }
-        push_name(heap, &mut out, program, d.name)?;
-        push_size(heap, &mut out, d)?;
-        i += 2;
-    }
-    Ok(out)
+pub fn signature(heap: Global, program: &Program<'_>, params: usize) -> Result<String, AllocError>
+    ensures { IfOk result (λ s. string_bytes s ≡ signature_text (declared (rest program.now params))) }
+{
+    declarations::from(&*program, params)
+        .map(Parameter)
+        .join(heap, ", ")
 }
 
-fn push_row(heap: Global, out: &mut String, row: &[u64]) -> Result<(), Stop> {
-    out.push_str("[")?;
-    for (k, n) in row.iter().enumerate() {
-        if k > 0 {
-            out.push_str(", ")?;
-        }
-        out.push_str(format!(in heap; "{n}")?.as_str())?;
-    }
-    out.push_str("]")?;
-    Ok(())
+// The numbers of a parameter: one alone, or a row in brackets.
+#[derive(Clone, Copy)]
+struct Numbers<'a> {
+    shape: Shape,
+    numbers: &'a [u64],
 }
 
-fn push_values(
-    heap: Global,
-    out: &mut String,
-    d: Declaration,
-    numbers: &[u64],
-) -> Result<(), Stop> {
-    if d.size > 0 {
-        return push_row(heap, out, numbers);
+impl fmt::Display for Numbers<'_> {
+    ghost output = { λ v. Some (numbers_text (size_of v.shape) v.numbers.now) };
+
+    #[tactic(auto, using(crate::proofs::Rows::debug_row))]
+    fn fmt<W: fmt::Write>(&self, f: &mut fmt::Formatter<W>) -> fmt::Result {
+        match (self.shape, self.numbers) {
+            (Shape::Scalar, [n, ..]) => write!(f, "{n}"),
+            (Shape::Scalar, []) => Ok(()),
+            (Shape::Row(_), row) => write!(f, "{row:?}"),
+        }
     }
-    if let Some(n) = numbers.first() {
-        let n = *n;
-        out.push_str(format!(in heap; "{n}")?.as_str())?;
-    }
-    Ok(())
 }
 
 // A line for each parameter from an index on, with its numbers.
@@ -89,19 +75,18 @@ pub fn values(
     program: &Program<'_>,
     params: usize,
     numbers: &[u64],
-) -> Result<String, Stop> {
+) -> Result<String, AllocError>
+    ensures { IfOk result (λ s. string_bytes s ≡ values_text (declared (rest program.now params)) numbers.now) }
+{
     let mut out = String::new(heap);
     let mut left = numbers;
-    let mut i = params;
-    while let Some(d) = declarations::at(program, i) {
-        let count = (d.size.max(1) as usize).min(left.len());
-        let (front, back) = left.split_at(count);
-        push_name(heap, &mut out, program, d.name)?;
-        out.push_str(" = ")?;
-        push_values(heap, &mut out, d, front)?;
-        out.push_str("\n")?;
-        left = back;
-        i += 2;
+    for d in declarations::from(&*program, params) {
+        let name = BStr::new(d.name.text);
+        let shape = d.shape;
+        let (numbers, behind) = left.split_at(shape.count().min(left.len()));
+        let numbers = Numbers { shape, numbers };
+        writeln!(out, "{name} = {numbers}")?;
+        left = behind;
     }
     Ok(out)
 }

@@ -2,7 +2,9 @@
 ghost use Rattle.std.specs.Prelude.{◌≡◌, IfOk};
 ghost use Rattle.std.specs.Str.Parse.{digits_value, without_leading_plus};
 
-use std::alloc::{AllocError, AllocFailed, Global};
+use crate::answer::refused;
+use std::alloc::{AllocError, Global};
+use thiserror::Error;
 
 pub const HELP: &str = "usage: run FILE PROC NUMBER.. [--choices N,N,..] [--fuel N] [--help]
 
@@ -22,53 +24,40 @@ used up, or, on standard error, what is wrong with the text or the words given.
 A precondition that is not so is told in a note, and the run goes on.
 ";
 
-// Why nothing was run.
-#[derive(Drop)]
+// Why there is no answer.
+#[derive(Debug, Drop, Error)]
 pub enum Stop {
-    Memory,
+    #[error("out of memory")]
+    Memory(#[from(alloc)] AllocError),
     // a message for whoever asked
+    #[error("{0}")]
     Refused(String),
 }
 
-impl From<AllocError> for Stop {
-    fn from(_e: AllocError) -> Stop {
-        Stop::Memory
-    }
-}
-
-impl<T: Drop> From<AllocFailed<T>> for Stop {
-    fn from(_e: AllocFailed<T>) -> Stop {
-        Stop::Memory
-    }
-}
-
 #[derive(Drop)]
-pub struct Request {
-    pub help: bool,
-    // FILE PROC NUMBER..
-    pub words: Vec<String>,
+pub enum Request<'a> {
+    Help,
+    Run(Run<'a>),
+}
+
+// A procedure of the program in a file, to be run on these numbers.
+#[derive(Drop)]
+pub struct Run<'a> {
+    pub file: &'a str,
+    pub procedure: &'a str,
+    // as they are written
+    pub numbers: Vec<&'a str>,
     pub choices: Vec<u64>,
     pub fuel: u64,
-}
-
-// What the next word is.
-#[derive(Clone, Copy)]
-enum Next {
-    Word,
-    Choices,
-    Fuel,
 }
 
 // The number that a word is written for.
 pub fn number(heap: Global, word: &str) -> Result<u64, Stop>
     ensures { IfOk result (λ n. n ≡ digits_value 10 (without_leading_plus word.now)) }
 {
-    match word.parse::<u64>() {
-        Ok(n) => Ok(n),
-        Err(_) => Err(Stop::Refused(format!(in heap;
-            "`{word}` is no number: expected a whole number below 2^64"
-        )?)),
-    }
+    word.parse::<u64>().or_else(|_| {
+        refused(format!(in heap; "`{word}` is no number: expected a whole number below 2^64")?)
+    })
 }
 
 fn add_choices(heap: Global, choices: &mut Vec<u64>, list: &str) -> Result<(), Stop> {
@@ -78,61 +67,58 @@ fn add_choices(heap: Global, choices: &mut Vec<u64>, list: &str) -> Result<(), S
     Ok(())
 }
 
-fn add_word(heap: Global, request: &mut Request, word: &str) -> Result<Next, Stop> {
-    match word {
-        "--help" => {
-            request.help = true;
-            Ok(Next::Word)
-        }
-        "--choices" => Ok(Next::Choices),
-        "--fuel" => Ok(Next::Fuel),
-        _ => {
-            if word.starts_with("--") {
-                return Err(Stop::Refused(format!(in heap;
-                    "`{word}` is no option: expected --choices, --fuel or --help"
-                )?));
-            }
-            request.words.push(String::from_str(heap, word)?)?;
-            Ok(Next::Word)
-        }
-    }
-}
-
-fn add(heap: Global, request: &mut Request, next: Next, word: &str) -> Result<Next, Stop> {
+// The word behind an option.
+fn behind<'a>(
+    heap: Global,
+    option: &str,
+    next: Option<&'a String>,
+    wanted: &str,
+) -> Result<&'a str, Stop> {
     match next {
-        Next::Word => add_word(heap, request, word),
-        Next::Choices => {
-            add_choices(heap, &mut request.choices, word)?;
-            Ok(Next::Word)
-        }
-        Next::Fuel => {
-            request.fuel = number(heap, word)?;
-            Ok(Next::Word)
-        }
+        Some(word) => Ok(word.as_str()),
+        None => refused(format!(in heap;
+            "{option} is the last word: expected {wanted} behind it"
+        )?),
     }
 }
 
 // What these words ask for, without the program's own name.
-pub fn requested(heap: Global, words: &[String]) -> Result<Request, Stop> {
-    let mut request = Request {
-        help: false,
-        words: Vec::new(heap),
-        choices: Vec::new(heap),
-        fuel: 1_000_000,
-    };
-    let mut next = Next::Word;
-    for word in words {
-        next = add(heap, &mut request, next, word.as_str())?;
+pub fn requested<'a>(heap: Global, words: &'a [String]) -> Result<Request<'a>, Stop> {
+    let mut help = false;
+    let mut plain = Vec::new(heap);
+    let mut choices = Vec::new(heap);
+    let mut fuel = 1_000_000;
+    let mut words = words.iter();
+    while let Some(word) = words.next() {
+        match word.as_str() {
+            "--help" => help = true,
+            "--choices" => {
+                let list = behind(heap, word.as_str(), words.next(), "numbers with commas")?;
+                add_choices(heap, &mut choices, list)?;
+            }
+            "--fuel" => {
+                fuel = number(heap, behind(heap, word.as_str(), words.next(), "a number")?)?;
+            }
+            option if option.starts_with("--") => {
+                return refused(format!(in heap;
+                    "`{option}` is no option: expected --choices, --fuel or --help"
+                )?);
+            }
+            word => plain.push(word)?,
+        }
     }
-    match next {
-        Next::Word => Ok(request),
-        Next::Choices => Err(Stop::Refused(String::from_str(
-            heap,
-            "--choices is the last word: expected numbers with commas behind it",
-        )?)),
-        Next::Fuel => Err(Stop::Refused(String::from_str(
-            heap,
-            "--fuel is the last word: expected a number behind it",
-        )?)),
+    if help {
+        return Ok(Request::Help);
+    }
+    match plain.as_slice() {
+        [] => refused(String::from_str(heap, "expected FILE PROC NUMBER.., or --help")?),
+        [_] => refused(String::from_str(heap, "expected PROC NUMBER.. behind FILE, or --help")?),
+        [file, procedure, numbers @ ..] => Ok(Request::Run(Run {
+            file: *file,
+            procedure: *procedure,
+            numbers: numbers.to_vec(heap)?,
+            choices,
+            fuel,
+        })),
     }
 }

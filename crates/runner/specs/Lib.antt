@@ -1,0 +1,2 @@
+-- What is printed of a program.
+pub mod Written
