@@ -1,6 +1,6 @@
 -- Arguments: from the caller to the procedure, and back.
 use Rattle.std.proofs.Common.{◌≡◌, ℕ, ◌+◌, ◌-◌, true, false, cond, eqb, List, [], ◌∷◌, ◌++◌, length, take, replicate, Some, None, vec_items, Option, sym, refl, ap, ◌∙◌, subst, inl, inr, append_assoc, append-nil, arith}
-use Rattle.std.proofs.lemmas.List.{length-append, length-replicate, take-replicate, drop-replicate, take_all}
+use Rattle.std.proofs.lemmas.List.{length-append, length-replicate, replicate-append-replicate, take-replicate, drop-replicate, take_all}
 use Rattle.std.proofs.lemmas.Bool.{and_parts, cases_Bool, eqb-true, both_ways}
 use Rattle.lang.specs.Base.{◌>>=◌, maybe, Word, same}
 use Rattle.lang.specs.Meaning.{State, values_of, count, pass, pass_back, zeros}
@@ -55,6 +55,14 @@ state_zeros (d ∷ ds) =
     let n : ℕ = 0 in
     let left : count d + counts ds - count d ≡ counts ds = omega arith in
     rw (take-replicate (count d) (count d + counts ds) n (omega arith), drop-replicate (count d) (count d + counts ds) n, left) (ap (λ s. record { name = d.name; values = replicate (count d) n } ∷ s) (state_zeros ds))
+
+pub zeros_none : (xs : List ℕ) (ds : List Decl) → ds ≡ [] → xs ++ replicate (counts ds) 0 ≡ xs
+unfolding counts
+zeros_none xs ds e = rw e (append-nil xs)
+
+pub zeros_more : (xs : List ℕ) {ds es : List Decl} {d : Decl} → ds ≡ d ∷ es → (xs ++ replicate (count d) 0) ++ replicate (counts es) 0 ≡ xs ++ replicate (counts ds) 0
+unfolding counts
+zeros_more xs {es = es} {d = d} e = let n : ℕ = 0 in rw e (append_assoc xs (replicate (count d) n) (replicate (counts es) n) ∙ ap (λ zs. xs ++ zs) (replicate-append-replicate (count d) (counts es) n))
 
 -- zeros behind others, by their count
 pub filled : (xs all : List ℕ) (long count more n : ℕ) → all ≡ take count xs ++ replicate (count - long) 0 → long ≡ length xs → count ≡ long + more → more ≡ n → all ≡ xs ++ replicate n 0

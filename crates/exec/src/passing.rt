@@ -1,5 +1,5 @@
 // Arguments: from the caller to the procedure, and back.
-ghost use Rattle.std.specs.Prelude.{◌≡◌, true, length, IfOk, MatchResult, ◌≢◌};
+ghost use Rattle.std.specs.Prelude.{◌≡◌, true, ◌++◌, length, replicate, IfOk, OnOk, MatchResult, ◌≢◌};
 ghost use Rattle.lang.specs.Soundness.{same_sizes};
 ghost use Rattle.walk.specs.Walking.{rest, declared, passed};
 ghost use Rattle.eval.specs.States.{counts};
@@ -15,6 +15,18 @@ use std::alloc::{AllocError, Global};
 use walk::name::Name;
 use walk::{arguments, declarations};
 
+// Zeros for all that is declared from an index on.
+fn zero_locals(numbers: &mut Vec<u64>, program: &Program<'_>, from: usize) -> Result<(), AllocError>
+    ensures { OnOk result (numbers.new.items ≡ numbers.old.items ++ replicate (counts (declared (rest program.now from))) 0) }
+{
+    for d in declarations::from(&*program, from) {
+        let count = d.shape.count();
+        numbers.reserve(count)?;
+        numbers.resize(numbers.len() + count, 0)?;
+    }
+    Ok(())
+}
+
 // A procedure that begins, with the numbers of its parameters.
 pub fn begin<'p>(
     heap: Global,
@@ -28,10 +40,7 @@ pub fn begin<'p>(
 {
     let olds = Vec::from_slice(heap, numbers.as_slice())?;
     let mut all = numbers;
-    // So many numbers fit in no memory.
-    let more = numbers::declared_count(program, locals).ok_or(AllocError)?;
-    let count = all.len().checked_add(more).ok_or(AllocError)?;
-    all.resize(count, 0)?;
+    zero_locals(&mut all, program, locals)?;
     Ok(Activation {
         program,
         params,

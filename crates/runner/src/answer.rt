@@ -151,7 +151,7 @@ pub fn answer_to(heap: Global, run: &Run<'_>, text: &[u8]) -> Result<Answer, Sto
         Err(ReadError::NoText(e)) => return refused(source.no_text(heap, e)?),
         Err(ReadError::Few) => return Err(Stop::Memory(AllocError)),
     };
-    // As above.
+    // Likewise no closure, which would hold the source.
     if let Err(e) = sound::check(&program) {
         return refused(source.not_sound(heap, e)?);
     }
