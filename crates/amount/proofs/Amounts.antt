@@ -11,11 +11,10 @@ use Rattle.lang.specs.Instr.{Instr}
 use Rattle.lang.specs.Soundness.{find_proc, decl_name, proc_name, scope, sound_expr, sound_bool, sound_block, sound_proc, sound}
 use Rattle.lang.specs.Syntax.{Decl, Proc, Program}
 use Rattle.walk.specs.Walking.{rest, declared, code_head, Laid}
-use Rattle.amount.specs.Weighing.{level, most, weighed, no_calls, all_called, call_size, Weighs}
+use Rattle.amount.specs.Weighing.{level, most, weighed, no_calls, call_size, Weighs}
 use Rattle.lang.specs.declared.program.Program as lent
 use Rattle.walk.specs.declared.procedures.Outline.{Outline}
 use Rattle.amount.proofs.Weighing.{expr_weighs, bool_weighs, block_weighs, level_room}
-use Rattle.amount.proofs.Totals.{weighed_calls}
 use Rattle.sound.proofs.Wholes.{proc_parts}
 
 -- what is sound of a procedure
@@ -74,12 +73,12 @@ module _ (held : lent.Program) (p : Program) (q : Proc) (k : List Instr) (o : Ou
   names_are : min (size_decls (declared (rest held o.params) ++ declared (rest held o.locals))) most ≡ size_decls (scope q)
   names_are = rw (laid.params, laid.locals) (omega (arith, small (scope q) (sound_parts p q is_sound).short, (sound_parts p q is_sound).few))
 
-  pub procedure_is : (n head body calls r : ℕ) → n ≡ min (size_decls (declared (rest held o.params) ++ declared (rest held o.locals))) most → head ≡ min (weighed no_calls 0 1 (level 1) (rest held o.head)) most → body ≡ min (weighed no_calls n 2 (level 1) (rest held o.body)) most → calls ≡ min (all_called (call_size p n) (rest held o.body)) most → r ≡ min (min (min (n + head) most + body) most + calls) most → r ≡ min (size_proc p q) most
+  pub procedure_is : (n head body r : ℕ) → n ≡ min (size_decls (declared (rest held o.params) ++ declared (rest held o.locals))) most → head ≡ min (weighed no_calls 0 1 (level 1) (rest held o.head)) most → body ≡ min (weighed (call_size p n) n 2 (level 1) (rest held o.body)) most → r ≡ min (min (n + head) most + body) most → r ≡ min (size_proc p q) most
   unfolding size_proc
-  procedure_is n head body calls r is_n is_head is_body is_calls is_r =
+  procedure_is n head body r is_n is_head is_body is_r =
       let names = is_n ∙ names_are in
       let block : size_block p n q.body ≡ size_block p (size_decls (scope q)) q.body = ap (λ m. size_block p m q.body) names in
-      omega (arith, names, block, head_is 1, body_is n, weighed_calls (call_size p n) n 2 (level 1) (rest held o.body), is_head, is_body, is_calls, is_r)
+      omega (arith, names, block, head_is 1, body_is n, is_head, is_body, is_r)
 
 found_in : (P : Proc → Bool) (qs : List Proc) (x : Word) (q : Proc) → all_of P qs ≡ true → find_proc qs x ≡ Some q → P q ≡ true
 unfolding find_proc

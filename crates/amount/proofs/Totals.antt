@@ -1,13 +1,12 @@
 -- Sums as they are taken in code: one by one, and up to the largest number.
-use Rattle.std.proofs.Common.{◌≡◌, ℕ, ◌+◌, ◌*◌, min, true, false, List, [], ◌∷◌, ◌++◌, sym, refl, ap, ◌∙◌, inl, inr, arith}
-use Rattle.std.proofs.lemmas.Bool.{cases_Bool}
+use Rattle.std.proofs.Common.{◌≡◌, ℕ, ◌+◌, ◌*◌, min, true, false, List, [], ◌∷◌, ◌++◌, sym, refl, ap, ◌∙◌, arith}
 use Rattle.lang.specs.Amount.{size_decls}
 use Rattle.lang.specs.Base.{Word}
 use Rattle.lang.specs.Instr.{Instr}
 use Rattle.walk.specs.Roles.{role, ends}
 use Rattle.lang.specs.Syntax.{Decl}
 use Rattle.walk.specs.Walking.{first}
-use Rattle.amount.specs.Weighing.{Load, counts, times, back, adds, sets, measures, calls, load, most, turned, counted, added, called, weighed, no_calls, all_called}
+use Rattle.amount.specs.Weighing.{Load, counts, times, back, adds, sets, measures, calls, load, most, turned, counted, added, called, weighed, no_calls}
 use Rattle.amount.specs.declared.factors.Factors.{Factors}
 
 pub sizes_none : {ds : List Decl} → ds ≡ [] → size_decls ds ≡ 0
@@ -50,22 +49,3 @@ module _ (g : Word → ℕ) (n m : ℕ) (s : Factors) where
     pub weighed_more : (t u v : ℕ) (r : Factors) → r ≡ turned m s (load i) → u ≡ min (t + ((r.now * counted (load i) + added n (load i)) + called g (load i))) most → min (t + weighed g n m s j) most ≡ v → min (u + weighed g n m r k) most ≡ v
     weighed_more t u v r is_r is_u so_far =
         rw (is_u, is_r) (join t _ (called g (load i)) (weighed g n m (turned m s (load i)) k) v (ap (λ z. min (t + z) most) (sym step) ∙ so_far))
-
-module _ (g : Word → ℕ) where
-  pub called_end : (k : List Instr) → ends (role (first k)) ≡ true → all_called g k ≡ 0
-  unfolding all_called
-  called_end [] e = refl
-  called_end (i ∷ k) e = rw e
-
-  pub called_more : {j k : List Instr} {i : Instr} → j ≡ i ∷ k → ends (role i) ≡ false → all_called g j ≡ called g (load i) + all_called g k
-  unfolding all_called
-  called_more here on = rw (here, on)
-
-  -- what is weighed of a part is what is weighed without the calls, and the calls
-  pub weighed_calls : (n m : ℕ) (s : Factors) (k : List Instr) → weighed g n m s k ≡ weighed no_calls n m s k + all_called g k
-  unfolding weighed all_called
-  weighed_calls n m s [] = refl
-  weighed_calls n m s (i ∷ k) = elim (cases_Bool (ends (role i))) [
-    | inl end ↦ rw end
-    | inr on ↦ rw (on, no_call (load i), weighed_calls n m (turned m s (load i)) k) (omega arith)
-  ]

@@ -117,11 +117,6 @@ unfoldable pub weighed : (Word → ℕ) → ℕ → ℕ → Factors → List Ins
 weighed g n m s [] = 0
 weighed g n m s (i ∷ k) = cond (ends (role i)) 0 (((turned m s (load i)).now * counted (load i) + added n (load i)) + (called g (load i) + weighed g n m (turned m s (load i)) k))
 
--- the calls alone
-unfoldable pub all_called : (Word → ℕ) → List Instr → ℕ
-all_called g [] = 0
-all_called g (i ∷ k) = cond (ends (role i)) 0 (called g (load i) + all_called g k)
-
 -- a call of a procedure of that name
 abbrev pub call_size : Program → ℕ → Word → ℕ
 call_size p n f = maybe (find_proc p.procs f) 1 λ q. 4 + (2 * n + (size_bool q.pre + (size_bool q.post + 2 * size_expr q.measure)))

@@ -12,7 +12,7 @@ ghost use Rattle.lang.specs.Syntax as syntax;
 ghost use Rattle.walk.specs.Listing.{declared_in};
 ghost use Rattle.walk.specs.Shapes.{size_of};
 ghost use Rattle.walk.specs.Walking.{rest, declared};
-ghost use Rattle.amount.specs.Weighing.{load, level, called, weighed, no_calls, all_called, call_size};
+ghost use Rattle.amount.specs.Weighing.{load, level, called, weighed, no_calls, call_size};
 
 pub mod factors;
 
@@ -84,12 +84,16 @@ fn call_amount(program: &Program<'_>, node: Node, names: u64) -> u64
         .saturating_add(4)
 }
 
-// How much the calls in the part at an index are, in a procedure whose names are so much.
-fn calls_amount(program: &Program<'_>, from: usize, names: u64) -> u64
-    ensures { (p : syntax.Program) → Holds program.now p → sound p ≡ true → result ≡ min (all_called (call_size p names) (rest program.now from)) (2 ^ 64 - 1) }
+// How much the statements at an index are, in a procedure whose names are so much: as `part_amount`, with the calls. A loop of its
+// own, since a second one for the calls alone takes as long again, and no closure that holds a program can be handed to one.
+fn body_amount(program: &Program<'_>, from: usize, names: u64) -> u64
+    ensures { (p : syntax.Program) → Holds program.now p → sound p ≡ true → result ≡ min (weighed (call_size p names) names 2 (level 1) (rest program.now from)) (2 ^ 64 - 1) }
 {
     let mut total: u64 = 0;
+    let mut factors = Factors::at_level(1);
     for node in walk::nodes_from(&*program, from) {
+        factors = factors.turn(program, node, 2);
+        total = factors.add(total, node, names);
         total = total.saturating_add(call_amount(program, node, names));
     }
     total
@@ -102,11 +106,9 @@ fn procedure_amount(program: &Program<'_>, i: usize) -> u64
     let o = procedures::outline_at(program, i);
     let names = names_amount(program, o);
     let head = part_amount(program, o.head, 0, 1);
-    let body = part_amount(program, o.body, names, 2);
     names
         .saturating_add(head)
-        .saturating_add(body)
-        .saturating_add(calls_amount(program, o.body, names))
+        .saturating_add(body_amount(program, o.body, names))
 }
 
 // How much there is to show of a sound program, or the largest number if it is more.

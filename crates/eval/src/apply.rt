@@ -36,11 +36,22 @@ pub fn apply(stacks: &mut Stacks, scope: &Scope<'_>, node: Node) -> Result<(), A
         }
         Node::Index(x) => {
             let i = numbers.pop(x);
-            numbers.push(values::element(scope.values(program.name(x)), i, x))
+            // Where the place failed, the row is not looked up.
+            let row = if i.is_ok() {
+                scope.values(program.name(x))
+            } else {
+                None
+            };
+            numbers.push(values::element(row, i, x))
         }
         Node::OldIndex(x) => {
             let i = numbers.pop(x);
-            numbers.push(values::element(scope.names.values_old(program.name(x)), i, x))
+            let olds = if i.is_ok() {
+                scope.names.values_old(program.name(x))
+            } else {
+                None
+            };
+            numbers.push(values::element(olds, i, x))
         }
         Node::True(_) => truths.push(Ok(true)),
         Node::Compare(comparison, at) => {

@@ -77,7 +77,7 @@ fn slot_from(program: &Program<'_>, from: usize, start: usize, name: &[u8]) -> O
     let mut n = start;
     for d in declarations::from(&*program, from) {
         let size = d.shape.count();
-        if d.name.is(name) {
+        if d.name().is(name) {
             return Some(Slot { start: n, size });
         }
         n += size;

@@ -15,14 +15,22 @@ use std::alloc::{AllocError, Global};
 use walk::name::Name;
 use walk::{arguments, declarations};
 
+// One after the other, so that the row doubles as it grows: room asked for by each declaration would leave it up to twice as large.
+fn push_zeros(numbers: &mut Vec<u64>, count: usize) -> Result<(), AllocError>
+    ensures { OnOk result (numbers.new.items ≡ numbers.old.items ++ replicate count 0) }
+{
+    for _ in 0..count {
+        numbers.push(0)?;
+    }
+    Ok(())
+}
+
 // Zeros for all that is declared from an index on.
 fn zero_locals(numbers: &mut Vec<u64>, program: &Program<'_>, from: usize) -> Result<(), AllocError>
     ensures { OnOk result (numbers.new.items ≡ numbers.old.items ++ replicate (counts (declared (rest program.now from))) 0) }
 {
     for d in declarations::from(&*program, from) {
-        let count = d.shape.count();
-        numbers.reserve(count)?;
-        numbers.resize(numbers.len() + count, 0)?;
+        push_zeros(numbers, d.shape.count())?;
     }
     Ok(())
 }
@@ -72,7 +80,7 @@ pub fn pass(
         numbers.extend_from_slice(values)?;
     }
     match left.next() {
-        Some(d) => Err(Stop::Failed(names::undefined(d.name.at))),
+        Some(d) => Err(Stop::Failed(names::undefined(d.place))),
         None => Ok(numbers),
     }
 }
@@ -108,10 +116,10 @@ pub fn hand_back(
         let Some(d) = left.next() else {
             return Err(names::undefined(x.at));
         };
-        hand(caller, callee, d.name, x)?;
+        hand(caller, callee, d.name(), x)?;
     }
     match left.next() {
-        Some(d) => Err(names::undefined(d.name.at)),
+        Some(d) => Err(names::undefined(d.place)),
         None => Ok(()),
     }
 }

@@ -1,7 +1,7 @@
 // The words that a text is made of.
-ghost use Rattle.std.specs.Prelude.{◌≡◌};
-ghost use Rattle.lang.specs.Base.{same};
-ghost use Rattle.lang.specs.Tokens.{spelled};
+ghost use Rattle.std.specs.Prelude.{◌≡◌, ◌∷◌};
+ghost use Rattle.lang.specs.Base.{same, Word};
+ghost use Rattle.lang.specs.Tokens.{every_fixed, spelled, spelling};
 
 use std::fmt;
 
@@ -59,45 +59,41 @@ pub enum Token {
 }
 
 impl Fixed {
-    // All of them, in the order in which a text's words are looked for.
-    pub(crate) const EVERY: [Fixed; 36] = [
-        Fixed::Width,
-        Fixed::Proc,
-        Fixed::Pre,
-        Fixed::Post,
-        Fixed::Measure,
-        Fixed::Var,
-        Fixed::If,
-        Fixed::Else,
-        Fixed::While,
-        Fixed::Keep,
-        Fixed::Check,
-        Fixed::Any,
-        Fixed::Old,
-        Fixed::Yes,
-        Fixed::Not,
-        Fixed::And,
-        Fixed::Or,
-        Fixed::All,
-        Fixed::LeftParen,
-        Fixed::RightParen,
-        Fixed::LeftBracket,
-        Fixed::RightBracket,
-        Fixed::LeftBrace,
-        Fixed::RightBrace,
-        Fixed::Comma,
-        Fixed::Semicolon,
-        Fixed::Gets,
-        Fixed::Equals,
-        Fixed::Implies,
-        Fixed::LessThan,
-        Fixed::AtMost,
-        Fixed::Plus,
-        Fixed::Minus,
-        Fixed::Times,
-        Fixed::Over,
-        Fixed::Percent,
-    ];
+    // Those that begin with a byte, so that looking a word up asks three of them at most.
+    pub(crate) fn beginning_with(first: u8) -> &'static [Fixed]
+        ensures { (w : Word) → spelling result.now (first ∷ w) ≡ spelling every_fixed (first ∷ w) }
+    {
+        match first {
+            b'w' => &[Fixed::Width, Fixed::While],
+            b'p' => &[Fixed::Proc, Fixed::Pre, Fixed::Post],
+            b'l' => &[Fixed::Measure],
+            b'v' => &[Fixed::Var],
+            b'i' => &[Fixed::If],
+            b'e' => &[Fixed::Else],
+            b'k' => &[Fixed::Keep],
+            b'c' => &[Fixed::Check],
+            b'a' => &[Fixed::Any, Fixed::And, Fixed::All],
+            b'o' => &[Fixed::Old, Fixed::Or],
+            b'y' => &[Fixed::Yes],
+            b'n' => &[Fixed::Not],
+            b'(' => &[Fixed::LeftParen],
+            b')' => &[Fixed::RightParen],
+            b'[' => &[Fixed::LeftBracket],
+            b']' => &[Fixed::RightBracket],
+            b'{' => &[Fixed::LeftBrace],
+            b'}' => &[Fixed::RightBrace],
+            b',' => &[Fixed::Comma],
+            b';' => &[Fixed::Semicolon],
+            b'=' => &[Fixed::Gets, Fixed::Equals, Fixed::Implies],
+            b'<' => &[Fixed::LessThan, Fixed::AtMost],
+            b'+' => &[Fixed::Plus],
+            b'-' => &[Fixed::Minus],
+            b'*' => &[Fixed::Times],
+            b'/' => &[Fixed::Over],
+            b'%' => &[Fixed::Percent],
+            _ => &[],
+        }
+    }
 
     pub fn is(self, other: Fixed) -> bool
         ensures { result ≡ same (spelled self) (spelled other) }

@@ -7,6 +7,8 @@ use thiserror::Error;
 pub enum Expected {
     #[error("`{0}`")]
     Token(Fixed),
+    #[error("`{0}` or `{1}`")]
+    Either(Fixed, Fixed),
     #[error("a name")]
     Name,
     #[error("a number below 2^64")]

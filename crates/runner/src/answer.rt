@@ -109,10 +109,10 @@ impl Call<'_> {
         let numbers: Vec<u64> = run
             .numbers
             .iter()
-            .map(|word| number(heap, *word))
+            .map(|word| number(heap, word.as_str()))
             .try_collect(heap)?;
         let holds = exec::holds_before(heap, program, at, &numbers).or_else(|e| self.refusal(e))?;
-        let outcome = exec::run(heap, program, at, &numbers, &run.choices, run.fuel).or_else(
+        let outcome = exec::run(heap, program, at, &numbers, run.choices, run.fuel).or_else(
             |e| self.refusal(e),
         )?;
         Ok(Answer {

@@ -18,6 +18,6 @@ pub fn command(rt: &HostRuntime, words: &[String]) -> Result<Answer, Stop> {
             note: String::new(heap),
             outcome: Ok(String::from_str(heap, HELP)?),
         }),
-        Request::Run(run) => run_file(rt, &run),
+        Request::Run(line) => run_file(rt, &line.run(heap)?),
     }
 }

@@ -32,7 +32,7 @@ impl fmt::Display for Parameter<'_> {
     ghost output = { λ p. Some (declared_text (decl p.0)) };
 
     fn fmt<W: fmt::Write>(&self, f: &mut fmt::Formatter<W>) -> fmt::Result {
-        let name = BStr::new(self.0.name.text);
+        let name = BStr::new(self.0.name().text);
         match self.0.shape {
             Shape::Scalar => write!(f, "{name}"),
             Shape::Row(length) => write!(f, "{name}[{length}]"),
@@ -81,7 +81,7 @@ pub fn values(
     let mut out = String::new(heap);
     let mut left = numbers;
     for d in declarations::from(&*program, params) {
-        let name = BStr::new(d.name.text);
+        let name = BStr::new(d.name().text);
         let shape = d.shape;
         let (numbers, behind) = left.split_at(shape.count().min(left.len()));
         let numbers = Numbers { shape, numbers };

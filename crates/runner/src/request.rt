@@ -1,5 +1,5 @@
 // What the words of a command line ask for.
-ghost use Rattle.std.specs.Prelude.{◌≡◌, IfOk};
+ghost use Rattle.std.specs.Prelude.{◌≡◌, ◌<◌, drop, length, IfOk, MatchResult};
 ghost use Rattle.std.specs.Str.Parse.{digits_value, without_leading_plus};
 
 use crate::answer::refused;
@@ -35,20 +35,49 @@ pub enum Stop {
 }
 
 #[derive(Drop)]
-pub enum Request<'a> {
+pub enum Request {
     Help,
-    Run(Run<'a>),
+    Run(CommandLine),
+}
+
+#[derive(Drop)]
+pub struct CommandLine {
+    // FILE PROC NUMBER.., as far as they are given
+    pub words: Vec<String>,
+    pub choices: Vec<u64>,
+    pub fuel: u64,
 }
 
 // A procedure of the program in a file, to be run on these numbers.
-#[derive(Drop)]
+#[derive(Clone, Copy)]
 pub struct Run<'a> {
     pub file: &'a str,
     pub procedure: &'a str,
     // as they are written
-    pub numbers: Vec<&'a str>,
-    pub choices: Vec<u64>,
+    pub numbers: &'a [String],
+    pub choices: &'a [u64],
     pub fuel: u64,
+}
+
+impl CommandLine {
+    // What is to be run, if a file and a procedure are given.
+    pub(crate) fn run(&self, heap: Global) -> Result<Run<'_>, Stop>
+        ensures { MatchResult result (λ r. r.numbers.now ≡ drop 2 self.now.words.items) (λ _. length self.now.words.items < 2) }
+    {
+        match self.words.as_slice() {
+            [] => refused(String::from_str(heap, "expected FILE PROC NUMBER.., or --help")?),
+            [_] => {
+                refused(String::from_str(heap, "expected PROC NUMBER.. behind FILE, or --help")?)
+            }
+            [file, procedure, numbers @ ..] => Ok(Run {
+                file: file.as_str(),
+                procedure: procedure.as_str(),
+                numbers,
+                choices: self.choices.as_slice(),
+                fuel: self.fuel,
+            }),
+        }
+    }
 }
 
 // The number that a word is written for.
@@ -83,7 +112,7 @@ fn behind<'a>(
 }
 
 // What these words ask for, without the program's own name.
-pub fn requested<'a>(heap: Global, words: &'a [String]) -> Result<Request<'a>, Stop> {
+pub fn requested(heap: Global, words: &[String]) -> Result<Request, Stop> {
     let mut help = false;
     let mut plain = Vec::new(heap);
     let mut choices = Vec::new(heap);
@@ -104,21 +133,15 @@ pub fn requested<'a>(heap: Global, words: &'a [String]) -> Result<Request<'a>, S
                     "`{option}` is no option: expected --choices, --fuel or --help"
                 )?);
             }
-            word => plain.push(word)?,
+            word => plain.push(String::from_str(heap, word)?)?,
         }
     }
     if help {
         return Ok(Request::Help);
     }
-    match plain.as_slice() {
-        [] => refused(String::from_str(heap, "expected FILE PROC NUMBER.., or --help")?),
-        [_] => refused(String::from_str(heap, "expected PROC NUMBER.. behind FILE, or --help")?),
-        [file, procedure, numbers @ ..] => Ok(Request::Run(Run {
-            file: *file,
-            procedure: *procedure,
-            numbers: numbers.to_vec(heap)?,
-            choices,
-            fuel,
-        })),
-    }
+    Ok(Request::Run(CommandLine {
+        words: plain,
+        choices,
+        fuel,
+    }))
 }

@@ -30,8 +30,8 @@ fn check_apart(these: Declarations<'_>, others: Declarations<'_>) -> Result<(), 
 {
     let mut rest = these;
     while let Some(d) = rest.next() {
-        if declares(rest, others, d.name) {
-            return Err(Rule::DuplicateName.at(d.name.at));
+        if declares(rest, others, d.name()) {
+            return Err(Rule::DuplicateName.at(d.place));
         }
     }
     Ok(())
@@ -43,7 +43,7 @@ fn check_rows(these: Declarations<'_>) -> Result<(), Unsound>
 {
     for d in these {
         if d.shape.count() > 16 {
-            return Err(Rule::RowTooLong.at(d.name.at));
+            return Err(Rule::RowTooLong.at(d.place));
         }
     }
     Ok(())

@@ -46,8 +46,12 @@ impl<'p> Scope<'p> {
         if self.counts(name) {
             return Some(Shape::Scalar);
         }
-        // Not or_else: nothing is known of what a closure returns that holds a program.
-        self.params.shape(name).or(self.locals.shape(name))
+        // A match, so that locals are looked at only where no parameter has the name; nothing is known of what a closure returns
+        // that holds a program.
+        match self.params.shape(name) {
+            Some(shape) => Some(shape),
+            None => self.locals.shape(name),
+        }
     }
 
     // What the name at a place of the text stands for.

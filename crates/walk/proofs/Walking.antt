@@ -13,6 +13,7 @@ use Rattle.walk.specs.Roles.{Role, leaves, role, ends, declared_name, declared_s
 use Rattle.lang.specs.Syntax.{Decl}
 use Rattle.walk.specs.Walking.{first, rest, word, word_of, declared, DeclaredAt, passed, PassedAt, InPart}
 use Rattle.lang.specs.declared.code.Node.{Node}
+use Rattle.lang.specs.declared.code.Place.{Place}
 use Rattle.lang.specs.declared.program.Program.{Program}
 use Rattle.walk.specs.declared.declarations.Declaration.{Declaration}
 use Rattle.walk.specs.declared.name.Name.{Name}
@@ -74,10 +75,11 @@ module _ (held : Program) (i : ℕ) where
   pub no_declaration : declared_size (role (first (rest held (i + 1)))) ≡ None → declared (rest held i) ≡ []
   no_declaration e = no_size (rest held i) (rw (drop-drop 1 i (code_of held)) e)
 
-  pub declared_here : (d : Declaration) → d.name.text.now ≡ word held d.name.at → word_of held (Some d.name.at) ≡ declared_name (role (first (rest held i))) → Some (size_of d.shape) ≡ declared_size (role (first (rest held (i + 1)))) → length (code_of held) < 2 ^ 64 → DeclaredAt held i d
-  declared_here d named e f h =
+  pub declared_here : (d : Declaration) → d.program.now ≡ held → word_of held (Some d.place) ≡ declared_name (role (first (rest held i))) → Some (size_of d.shape) ≡ declared_size (role (first (rest held (i + 1)))) → length (code_of held) < 2 ^ 64 → DeclaredAt held i d
+  declared_here d same e f h =
+      let named : word d.program.now d.place ≡ word held d.place = ap (λ (p : Program). word p d.place) same in
       let inside = (found_here declared_size (code_of held) (i + 1) (size_of d.shape) refl (sym f)).within in
-      let more = declared_more (rest held i) d.name.text.now (size_of d.shape) (sym e ∙ ap Some (sym named)) (rw (drop-drop 1 i (code_of held)) (sym f)) in
+      let more = declared_more (rest held i) (word d.program.now d.place) (size_of d.shape) (sym e ∙ ap Some (sym named)) (rw (drop-drop 1 i (code_of held)) (sym f)) in
       record { here = rw (← (drop-drop 2 i (code_of held))) more; named = named; within = inside; room = omega arith }
 
   pub passed_here : (x : Name) → x.text.now ≡ word held x.at → word_of held (Some x.at) ≡ passed_name (role (first (rest held i))) → length (code_of held) < 2 ^ 64 → PassedAt held i x
@@ -85,6 +87,17 @@ module _ (held : Program) (i : ℕ) where
   passed_here x named e h =
       let found = found_here passed_name (code_of held) i _ refl (sym e) in
       record { here = ap passed found.splits ∙ rw (← e, named) refl; named = named; within = found.within; room = omega arith }
+
+-- An argument is given at an index, whichever.
+pub record GivenAt (held : Program) (i : ℕ) : Type 0 where
+  pub longer : length (passed (rest held i)) ≡ suc (length (passed (rest held (i + 1))))
+  pub within : i < length (code_of held)
+
+pub given_here : (held : Program) (i : ℕ) (p : Place) → word_of held (Some p) ≡ passed_name (role (first (rest held i))) → GivenAt held i
+unfolding passed
+given_here held i p e =
+    let found = found_here passed_name (code_of held) i _ refl (sym e) in
+    record { longer = ap (λ k. length (passed k)) found.splits ∙ rw (← e) refl; within = found.within }
 
 -- nothing is declared behind the last instruction
 pub none_at_end : (held : Program) (n : ℕ) → n ≡ length (code_of held) → declared (rest held n) ≡ []

@@ -48,11 +48,11 @@ word_of held o = o >>= λ p. Some (word held p)
 
 -- a declaration that is found at an index
 abbrev pub decl : Declaration → Decl
-decl d = record { name = d.name.text.now; size = size_of d.shape }
+decl d = record { name = word d.program.now d.place; size = size_of d.shape }
 
 pub record DeclaredAt (held : Program) (i : ℕ) (d : Declaration) : Type 0 where
   pub here : declared (rest held i) ≡ decl d ∷ declared (rest held (i + 2))
-  pub named : d.name.text.now ≡ word held d.name.at
+  pub named : (decl d).name ≡ word held d.place
   pub within : i + 1 < length (code_of held)
   pub room : i + 2 < 2 ^ 64
 

@@ -84,9 +84,9 @@ pub fn gives(program: &Program<'_>, from: usize, name: Place) -> bool
 pub fn end(program: &Program<'_>, from: usize) -> usize
     ensures { result ≡ from + length (passed (rest program.now from)) }
 {
-    // The index itself is asked for, so this loop is over indices.
+    // The index itself is asked for, so this loop is over indices; and no name is read, since nothing bounds its length.
     let mut i = from;
-    while let Some(_) = at(&*program, i) {
+    while let Some(_) = passed_name(program, i) {
         i += 1;
     }
     i

@@ -5,17 +5,29 @@ ghost use Rattle.lang.specs.Holding.{code_of};
 ghost use Rattle.walk.specs.Listing.{declared_in};
 ghost use Rattle.walk.specs.Roles.{role, declared_name, declared_size};
 ghost use Rattle.walk.specs.Shapes.{size_of};
-ghost use Rattle.walk.specs.Walking.{first, rest, word, word_of, declared, DeclaredAt, size_in};
+ghost use Rattle.walk.specs.Walking.{first, rest, word, word_of, decl, declared, DeclaredAt, size_in};
 
 use crate::name::Name;
 use crate::shape::Shape;
 use lang::code::{Node, Place};
 use lang::program::Program;
 
+// A name, by the place where it stands, and what it is declared as. The name itself is read when it is asked for: nothing bounds
+// its length, and who counts numbers does not want it.
 #[derive(Clone, Copy)]
 pub struct Declaration<'p> {
-    pub name: Name<'p>,
+    pub program: &'p Program<'p>,
+    pub place: Place,
     pub shape: Shape,
+}
+
+impl<'p> Declaration<'p> {
+    pub fn name(self) -> Name<'p>
+        ensures at { result.at ≡ self.entry.place }
+        ensures text { result.text.now ≡ (decl self.entry).name }
+    {
+        Name::at(self.program, self.place)
+    }
 }
 
 // What is declared one after the other from an index on.
@@ -52,7 +64,8 @@ pub fn at<'p>(program: &'p Program<'p>, i: usize) -> Option<Declaration<'p>>
     let place = declared_name(program, i)?;
     let shape = declared_shape(program, i + 1)?;
     Some(Declaration {
-        name: Name::at(program, place),
+        program,
+        place,
         shape,
     })
 }
@@ -95,7 +108,7 @@ impl<'p> Declarations<'p> {
         ensures { option_map size_of result ≡ size_in (declared_in self.entry) name.now }
     {
         for d in self {
-            if d.name.is(name) {
+            if d.name().is(name) {
                 return Some(d.shape);
             }
         }

@@ -4,4 +4,4 @@ use Rattle.amount.proofs.procedure_amount.Goals as goal
 
 pub returns : goal.returns
 returns c p holds sound q k here sound-q =
-    procedure_is c.args.program.now p q k c.outline_at-o.result (c.outline_at-o.ensures q k here) sound-q c.names_amount-names.result c.part_amount-head.result c.part_amount-body.result c.calls_amount.result c.saturating_add-3.result c.names_amount-names.ensures c.part_amount-head.ensures c.part_amount-body.ensures (c.calls_amount.ensures p holds sound) (omega arith)
+    procedure_is c.args.program.now p q k c.outline_at-o.result (c.outline_at-o.ensures q k here) sound-q c.names_amount-names.result c.part_amount-head.result c.body_amount.result c.saturating_add-2.result c.names_amount-names.ensures c.part_amount-head.ensures (c.body_amount.ensures p holds sound) (omega arith)

@@ -7,11 +7,19 @@ ghost use Rattle.lang.specs.Tokens.{every_fixed, is_digit, spelling, token, writ
 use super::bytes::{is_digit, is_letter};
 use crate::token::{Fixed, Token};
 
+// The first of these that is spelled so.
+fn spelled_among(these: &[Fixed], word: &[u8]) -> Option<Fixed>
+    ensures { result ≡ spelling these.now word.now }
+{
+    these.iter().copied().find(|f| f.is_spelled(word))
+}
+
 // Words and signs that are always spelled the same.
 fn fixed_word(word: &[u8]) -> Option<Fixed>
     ensures { result ≡ spelling every_fixed word.now }
 {
-    Fixed::EVERY.iter().copied().find(|f| f.is_spelled(word))
+    let first = *word.first()?;
+    spelled_among(Fixed::beginning_with(first), word)
 }
 
 // A number with one more digit; none where the byte is no digit or the number does not fit.

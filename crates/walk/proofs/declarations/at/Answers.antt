@@ -1,5 +1,4 @@
-use Rattle.std.proofs.Common.{sym, ap, ◌∙◌, Some}
-use Rattle.walk.specs.Walking.{word}
+use Rattle.std.proofs.Common.{sym, refl}
 use Rattle.walk.proofs.Walking.{no_name, no_declaration, declared_here}
 use Rattle.walk.proofs.declarations.at.Goals as goal
 
@@ -10,7 +9,4 @@ pub returns-in_err-shape : goal.returns-in_err-shape
 returns-in_err-shape c = rw c.from_residual-in_err-shape.ensures (no_declaration c.args.program.now c.args.i (sym c.in_err-shape.ensures))
 
 pub returns : goal.returns
-returns c =
-    let p = c.args.program.now in
-    let at = c.at.ensures.at in
-    declared_here p c.args.i _ (c.at.ensures.text ∙ ap (word p) (sym at)) (ap (λ x. Some (word p x)) at ∙ c.in_ok-place.ensures.name) c.in_ok-shape.ensures c.in_ok-place.ensures.bound
+returns c = declared_here c.args.program.now c.args.i _ refl c.in_ok-place.ensures.name c.in_ok-shape.ensures c.in_ok-place.ensures.bound
