@@ -1,7 +1,7 @@
 -- Names that `all` count.
-use Rattle.std.proofs.Common.{◌≡◌, ℕ, List, cond, [], ◌∷◌, Some, None, Option, refl, inl, inr}
+use Rattle.std.proofs.Common.{◌≡◌, ℕ, List, cond, [], ◌∷◌, Some, None, Option, inl, inr}
 use Rattle.std.proofs.lemmas.Bool.{cases_Bool}
-use Rattle.std.specs.Option.{option_map, option_or}
+use Rattle.std.specs.Option.{option_or}
 use Rattle.lang.specs.Base.{Word, same}
 use Rattle.lang.specs.Meaning.{State, values_of, bind}
 
@@ -12,8 +12,3 @@ bound_values s y x n o e =
       | inl t ↦ let f : o ≡ Some (n ∷ []) = rw t at e in rw (t, f)
       | inr t ↦ let f : o ≡ None = rw t at e in rw (t, f)
     ]
-
--- the first of two, and what is behind them both
-pub map_or : {T U : Type 0} (f : T → U) (o p : Option T) (q : Option U) → option_or (option_map f (option_or o p)) q ≡ option_or (option_map f o) (option_or (option_map f p) q)
-map_or f None p q = refl
-map_or f (Some x) p q = refl

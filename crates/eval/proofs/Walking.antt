@@ -18,7 +18,7 @@ use Rattle.walk.proofs.Outlines.{skipped, part_skipped, behind_part}
 use Rattle.walk.proofs.Walking.{here}
 use Rattle.walk.specs.Nests.{nested}
 use Rattle.walk.specs.Spans.{span}
-use Rattle.walk.specs.Walking.{first, rest}
+use Rattle.walk.specs.Walking.{first, rest, word}
 use Rattle.walk.specs.declared.nest.Nest.{Nest}
 use Rattle.eval.proofs.Ops.{code_ops_bool, apply_bool, nesting_bool}
 use Rattle.eval.specs.Evaluating.{OperandAt, Reached, Walked, Stepped, Counted, AllEnd}
@@ -179,9 +179,9 @@ pub no_round : (s : Scope) (x : Word) (body : ℕ) (st : Stacks) → SoFar s x b
 unfolding all_below
 no_round s x body st = record { is = λ a k here nested wide. (refl, refl) }
 
-module _ (s : Scope) (c : Counter) (body : ℕ) (st before : Stacks) (so_far : SoFar s c.name.text.now body c.value st before) where
+module _ (s : Scope) (c : Counter) (body : ℕ) (st before : Stacks) (so_far : SoFar s (word c.program.now c.place) body c.value st before) where
   abbrev counter : Word
-  counter = c.name.text.now
+  counter = word c.program.now c.place
 
   -- one round
   module _ (inner : Nest Counter) (deeper : nested inner ≡ c ∷ nested s.counters) (r : ℕ) (st₁ : Stacks) (walked : Walked (record { names = s.names; counters = inner }) body r st st₁) (t : Option Bool) (is_top : t ≡ top st₁.truths) (truths : List (Option Bool)) (popped : truths ≡ under st₁.truths) where

@@ -2,7 +2,7 @@
 use Rattle.std.specs.Prelude.{ℕ, List, [], ◌∷◌, length}
 use Rattle.lang.specs.Meaning.{State, bind}
 use Rattle.walk.specs.Nests.{nested}
-use Rattle.walk.specs.Walking.{rest, declared}
+use Rattle.walk.specs.Walking.{rest, word, declared}
 use Rattle.eval.specs.States.{state_of, both}
 use Rattle.eval.specs.declared.names.Names.{Names}
 use Rattle.eval.specs.declared.scope.Counter.{Counter}
@@ -18,7 +18,7 @@ state_old n = state_of (declared (rest n.program.now n.params)) n.old.now
 -- the state with the counters of `all` in front, the innermost first
 abbrev pub bound : List Counter → State → State
 bound [] s = s
-bound (c ∷ cs) s = bind (bound cs s) c.name.text.now c.value
+bound (c ∷ cs) s = bind (bound cs s) (word c.program.now c.place) c.value
 
 -- the states of which an expression speaks inside of `all`
 abbrev pub inside : Scope → State

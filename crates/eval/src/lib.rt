@@ -4,6 +4,7 @@
 ghost use Rattle.std.specs.Prelude.{IfOk};
 ghost use Rattle.std.specs.Result.{result_ok};
 ghost use Rattle.lang.specs.Instr.{instr};
+ghost use Rattle.walk.specs.Walking.{word};
 ghost use Rattle.eval.specs.Evaluating.{Walked, Stepped, Counted, Evaluated};
 
 mod apply;
@@ -20,9 +21,8 @@ use crate::failure::{Failure, Reason};
 use crate::names::Names;
 use crate::scope::{Counter, Scope};
 use crate::stacks::Stacks;
-use lang::code::Node;
+use lang::code::{Node, Place};
 use std::alloc::AllocError;
-use walk::name::Name;
 use walk::nest::Nest;
 
 // What an `all` says whose body stands at an index: up to the first round that is not true.
@@ -31,18 +31,23 @@ use walk::nest::Nest;
 fn rounds(
     stacks: &mut Stacks,
     scope: &Scope<'_>,
-    name: Name<'_>,
+    name: Place,
     limit: u64,
     body: usize,
 ) -> Result<Result<bool, Failure>, AllocError>
-    ensures { IfOk result (λ t. Counted scope.now name.entry.text.now limit body (result_ok t) stacks.old stacks.new) }
+    ensures { IfOk result (λ t. Counted scope.now (word scope.now.names.program.now name) limit body (result_ok t) stacks.old stacks.new) }
 {
     for value in 0..limit {
-        let Some(counters) = scope.counters.push(Counter { name, value }) else {
-            return Ok(Err(Reason::Undefined.at(name.at)));
+        let counter = Counter {
+            program: scope.names.program,
+            place: name,
+            value,
+        };
+        let Some(counters) = scope.counters.push(counter) else {
+            return Ok(Err(Reason::Undefined.at(name)));
         };
         perform(stacks, &Scope { counters, ..*scope }, body)?;
-        let truth = stacks.truths.pop(name.at);
+        let truth = stacks.truths.pop(name);
         if !truth.unwrap_or(false) {
             return Ok(truth);
         }
@@ -67,8 +72,7 @@ fn step(
     };
     let limit = operands::limit(scope.names.program, next);
     let body = walk::skip(scope.names.program, next, 2);
-    let name = Name::at(scope.names.program, x);
-    let truth = rounds(stacks, scope, name, limit, body)?;
+    let truth = rounds(stacks, scope, x, limit, body)?;
     stacks.truths.push(truth)?;
     Ok(operands::all_end(scope.names.program, next))
 }

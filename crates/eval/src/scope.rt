@@ -4,17 +4,20 @@ ghost use Rattle.std.specs.Option.{option_map, option_or};
 ghost use Rattle.lang.specs.Base.{same};
 ghost use Rattle.lang.specs.Meaning.{State, values_of};
 ghost use Rattle.walk.specs.Nests.{nested};
+ghost use Rattle.walk.specs.Walking.{word};
 ghost use Rattle.eval.specs.Naming.{bound, inside};
 
 use crate::names::Names;
+use lang::code::Place;
+use lang::program::Program;
 use std::slice;
-use walk::name::Name;
 use walk::nest::Nest;
 
-// What an `all` counts.
+// What an `all` counts. Its name stands at a place, and is read only where a name is looked for: nothing bounds its length.
 #[derive(Clone, Copy)]
 pub struct Counter<'a> {
-    pub name: Name<'a>,
+    pub program: &'a Program<'a>,
+    pub place: Place,
     pub value: u64,
 }
 
@@ -27,21 +30,27 @@ pub struct Scope<'a> {
 impl Counter<'_> {
     // As a row of one number, if the name is its own.
     fn row(&self, name: &[u8]) -> Option<&[u64]>
-        ensures { option_map (λ x. x.now) result ≡ (if same self.now.name.text.now name.now then Some (self.now.value ∷ []) else None) }
+        ensures { option_map (λ x. x.now) result ≡ (if same (word self.now.program.now self.now.place) name.now then Some (self.now.value ∷ []) else None) }
     {
-        self.name.is(name).then_some(slice::from_ref(&self.value))
+        self.program
+            .has_name(self.place, name)
+            .then_some(slice::from_ref(&self.value))
     }
 }
 
 // What a name counts, if it is that of an `all`.
-#[tactic(auto, using(crate::proofs::Counting::bound_values, crate::proofs::Counting::map_or))]
+#[tactic(auto, using(crate::proofs::Counting::bound_values))]
 fn counted<'a>(counters: &'a Nest<Counter<'_>>, name: &[u8]) -> Option<&'a [u64]>
     ensures { (s : State) → values_of (bound (nested counters.now) s) name.now ≡ option_or (option_map (λ x. x.now) result) (values_of s name.now) }
 {
     match counters {
         Nest::Zero => None,
         Nest::One(a) => a.row(name),
-        Nest::Two(a, b) => b.row(name).or(a.row(name)),
+        // A match, so that the outer name is read only where the inner one is another.
+        Nest::Two(a, b) => match b.row(name) {
+            Some(row) => Some(row),
+            None => a.row(name),
+        },
     }
 }
 

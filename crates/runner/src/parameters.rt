@@ -20,7 +20,7 @@ pub fn procedure_names(heap: Global, program: &Program<'_>) -> Result<String, Al
     ensures { (p : syntax.Program) → Holds program.now p → IfOk result (λ s. string_bytes s ≡ names_text (map (λ q. q.name) p.procs)) }
 {
     procedures::from(&*program, 0)
-        .map(|procedure| BStr::new(procedure.name.text))
+        .map(|procedure| BStr::new(procedure.name().text))
         .join(heap, ", ")
 }
 

@@ -13,7 +13,7 @@ use Rattle.walk.specs.Listing.{declared_in, GivesProcedure}
 use Rattle.walk.specs.declared.procedures.Procedures.{Procedures}
 use Rattle.walk.proofs.Listing.{no_procs, procs_behind}
 use Rattle.walk.specs.declared.declarations.Declarations.{Declarations}
-use Rattle.walk.specs.Walking.{rest, declared, code_head, Laid, ProcAt, ProcFound, Left}
+use Rattle.walk.specs.Walking.{rest, name_of, declared, code_head, Laid, ProcAt, ProcFound, Left}
 use Rattle.lang.specs.declared.program.Program as lent
 use Rattle.walk.specs.declared.nest.Nest.TheVariants.{Zero}
 use Rattle.sound.specs.declared.scope.Scope.{Scope}
@@ -117,13 +117,13 @@ module _ (held : lent.Program) (s t : Procedures) (here : s.program.now ≡ held
   all_seen g = sym (sym left.same ∙ rw (no_procs held s t here g left.procs left.code) refl)
 
   module _ (f : Procedure) (g : GivesProcedure s (Some f) t) (at : ProcAt held s.at f left.procs) where
-    first_seen : value ≡ (not (is_some (find_proc at.others f.name.text.now)) && (well_declared at.this.params at.this.locals && all_declared at.others))
+    first_seen : value ≡ (not (is_some (find_proc at.others (name_of f))) && (well_declared at.this.params at.this.locals && all_declared at.others))
     unfolding all_declared
     first_seen = sym left.same ∙ rw (at.split, at.name)
 
-    module _ (r : Option ℕ) (again : MatchOption r (find_proc at.others f.name.text.now ≡ None) (λ i. ProcFound held i at.others f.name.text.now)) where
+    module _ (r : Option ℕ) (again : MatchOption r (find_proc at.others (name_of f) ≡ None) (λ i. ProcFound held i at.others (name_of f))) where
       seen : value ≡ (not (is_some r) && (well_declared at.this.params at.this.locals && all_declared at.others))
-      seen = first_seen ∙ rw (same_found held at.others f.name.text.now r again) refl
+      seen = first_seen ∙ rw (same_found held at.others (name_of f) r again) refl
 
       pub seen_again : true ≡ is_some r → false ≡ value
       seen_again e = sym (seen ∙ rw (← e) refl)

@@ -83,10 +83,10 @@ fn check_declared(program: &Program<'_>) -> Result<(), Unsound>
     ensures { (qs : List syntax.Proc) → code_of program.now ≡ code_procs qs [] → is_ok result ≡ all_declared qs }
 {
     for f in procedures::from(&*program, 0) {
-        if procedures::find_named(program, f.next, f.name.text).is_some() {
-            return Err(Rule::DuplicateProcedure.at(f.name.at));
+        if procedures::find_named(program, f.next, f.name().text).is_some() {
+            return Err(Rule::DuplicateProcedure.at(f.place));
         }
-        names::check_names(program, f.name.at, procedures::outline_at(program, f.start))?;
+        names::check_names(program, f.place, procedures::outline_at(program, f.start))?;
     }
     Ok(())
 }

@@ -11,7 +11,7 @@ use Rattle.walk.specs.Roles.{role, declared_size, begun_name}
 use Rattle.walk.specs.Spans.{span}
 use Rattle.lang.specs.Soundness.{find_proc}
 use Rattle.lang.specs.Syntax.{Decl, Proc}
-use Rattle.walk.specs.Walking.{first, rest, word, declared, code_head, Laid, ProcAt, Left}
+use Rattle.walk.specs.Walking.{first, rest, word, name_of, declared, code_head, Laid, ProcAt, Left}
 use Rattle.lang.specs.declared.program.Program.{Program}
 use Rattle.walk.specs.declared.procedures.Outline.{Outline}
 use Rattle.walk.specs.declared.procedures.Procedure.{Procedure}
@@ -120,12 +120,13 @@ parts_front : (q : Proc) → Front (code_parts q)
 parts_front q = then_front (params_front q.params) (then_front (one_front _) (then_front (bool_front q.pre) (then_front (one_front _) (then_front (bool_front q.post) (then_front (one_front _) (then_front (expr_front q.measure) (then_front (locals_front q.locals) (then_front (one_front _) (then_front (block_front q.body) (one_front _))))))))))
 
 -- what stands at the beginning of procedures, and behind the first
-pub begun : (held : Program) (i : ℕ) (f : Procedure) (qs : List Proc) → rest held i ≡ code_procs qs [] → f.name.text.now ≡ word held f.name.at → Some (word held f.name.at) ≡ begun_name (role (first (rest held i))) → f.next ≡ min (i + 1 + 1 + span (first (rest held (i + 1)))) (length (code_of held)) → ProcAt held i f qs
-begun held i f [] here named e g = let z : ◌≡◌ {A = ℕ} 0 1 = cc in absurd (omega arith)
-begun held i f (q ∷ qs) here named e g =
+pub begun : (held : Program) (i : ℕ) (f : Procedure) (qs : List Proc) → rest held i ≡ code_procs qs [] → f.program.now ≡ held → Some (word held f.place) ≡ begun_name (role (first (rest held i))) → f.next ≡ min (i + 1 + 1 + span (first (rest held (i + 1)))) (length (code_of held)) → ProcAt held i f qs
+begun held i f [] here same e g = let z : ◌≡◌ {A = ℕ} 0 1 = cc in absurd (omega arith)
+begun held i f (q ∷ qs) here same e g =
+    let named : name_of f ≡ word held f.place = ap (λ (p : Program). word p f.place) same in
     let k = code_procs qs [] in
     let next : rest held (i + 1) ≡ instr.extent (length (code_parts q [])) ∷ code_parts q k = sym (drop-drop 1 i (code_of held)) ∙ ap (drop 1) here in
-    record { this = q; others = qs; split = refl; name = let same : Some (word held f.name.at) ≡ Some q.name = e ∙ ap (λ k. begun_name (role (first k))) here in cc; named = named; here = here; behind = part_skipped (code_of held) (i + 1) f.next _ next g ∙ behind_part (code_parts q) k (parts_front q) }
+    record { this = q; others = qs; split = refl; name = let this : Some (word held f.place) ≡ Some q.name = e ∙ ap (λ k. begun_name (role (first k))) here in cc; named = named; here = here; behind = part_skipped (code_of held) (i + 1) f.next _ next g ∙ behind_part (code_parts q) k (parts_front q) }
 
 pub not_begun : (held : Program) (i : ℕ) (qs : List Proc) → rest held i ≡ code_procs qs [] → None ≡ begun_name (role (first (rest held i))) → qs ≡ []
 not_begun held i [] here e = refl
@@ -138,12 +139,12 @@ module _ (held : Program) (x : Word) (value : Option Proc) (i : ℕ) (left : Lef
   proc_none e = sym left.same ∙ rw e refl
 
   module _ (f : Procedure) (at : ProcAt held i f left.procs) where
-    step : find_proc left.procs x ≡ cond (same f.name.text.now x) (Some at.this) (find_proc at.others x)
+    step : find_proc left.procs x ≡ cond (same (name_of f) x) (Some at.this) (find_proc at.others x)
     unfolding find_proc
     step = rw (at.split, at.name)
 
-    pub proc_here : true ≡ same f.name.text.now x → value ≡ Some at.this
+    pub proc_here : true ≡ same (name_of f) x → value ≡ Some at.this
     proc_here t = sym left.same ∙ step ∙ rw (← t) refl
 
-    pub proc_behind : false ≡ same f.name.text.now x → Left (λ qs. find_proc qs x) (rest held f.next) value
+    pub proc_behind : false ≡ same (name_of f) x → Left (λ qs. find_proc qs x) (rest held f.next) value
     proc_behind t = record { procs = at.others; code = at.behind; same = sym (step ∙ rw (← t) refl) ∙ left.same }

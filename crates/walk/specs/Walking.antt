@@ -85,13 +85,17 @@ pub record Laid (held : Program) (o : Outline) (q : Proc) (k : List Instr) : Typ
   pub head : rest held o.head ≡ code_head q (code_locals q.locals (instr.body (length (code_block q.body [])) ∷ code_block q.body (instr.end_proc ∷ k)))
   pub body : rest held o.body ≡ code_block q.body (instr.end_proc ∷ k)
 
+-- the name of a procedure
+abbrev pub name_of : Procedure → Word
+name_of f = word f.program.now f.place
+
 -- A procedure at an index, the first of several, and the others behind it.
 pub record ProcAt (held : Program) (i : ℕ) (f : Procedure) (qs : List Proc) : Type 0 where
   pub this : Proc
   pub others : List Proc
   pub split : qs ≡ this ∷ others
-  pub name : f.name.text.now ≡ this.name
-  pub named : f.name.text.now ≡ word held f.name.at
+  pub name : name_of f ≡ this.name
+  pub named : name_of f ≡ word held f.place
   pub here : rest held i ≡ code_proc this (code_procs others [])
   pub behind : rest held f.next ≡ code_procs others []
 

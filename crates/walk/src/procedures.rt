@@ -6,7 +6,7 @@ ghost use Rattle.lang.specs.Instr.{Instr};
 ghost use Rattle.walk.specs.Roles.{role, begun_name};
 ghost use Rattle.lang.specs.Soundness.{find_proc};
 ghost use Rattle.lang.specs.Syntax.{Proc};
-ghost use Rattle.walk.specs.Walking.{first, rest, word, word_of, Laid, ProcAt, ProcFound};
+ghost use Rattle.walk.specs.Walking.{first, rest, word, word_of, name_of, Laid, ProcAt, ProcFound};
 
 use crate::declarations;
 use crate::name::Name;
@@ -22,12 +22,23 @@ pub struct Outline {
     pub body: usize,
 }
 
-// A procedure: where it begins, its name, and the index behind its end.
+// A procedure: where it begins, the place of its name, and the index behind its end. As a declaration's, the name itself is read when
+// it is asked for.
 #[derive(Clone, Copy)]
 pub struct Procedure<'p> {
+    pub program: &'p Program<'p>,
     pub start: usize,
-    pub name: Name<'p>,
+    pub place: Place,
     pub next: usize,
+}
+
+impl<'p> Procedure<'p> {
+    pub fn name(self) -> Name<'p>
+        ensures at { result.at ≡ self.entry.place }
+        ensures text { result.text.now ≡ name_of self.entry }
+    {
+        Name::at(self.program, self.place)
+    }
 }
 
 // What procedures there are one after the other from an index on.
@@ -74,8 +85,9 @@ pub fn at<'p>(program: &'p Program<'p>, i: usize) -> Option<Procedure<'p>>
 {
     let place = begun_name(program, i)?;
     Some(Procedure {
+        program,
         start: i,
-        name: Name::at(program, place),
+        place,
         next: crate::part_end(program, i + 1),
     })
 }
@@ -109,7 +121,7 @@ pub fn find_named(program: &Program<'_>, from: usize, name: &[u8]) -> Option<usi
     ensures { (qs : List Proc) → rest program.now from ≡ code_procs qs [] → MatchOption result (find_proc qs name.now ≡ None) (λ i. ProcFound program.now i qs name.now) }
 {
     for f in crate::procedures::from(&*program, from) {
-        if f.name.is(name) {
+        if f.name().is(name) {
             return Some(f.start);
         }
     }

@@ -1,7 +1,6 @@
-use Rattle.std.proofs.Common.{sym, refl, ap, arith, ◌∙◌, Some, is_some}
+use Rattle.std.proofs.Common.{sym, refl, ap, arith, is_some}
 use Rattle.lang.specs.Holding.{code_of}
 use Rattle.walk.specs.Roles.{begun_name}
-use Rattle.walk.specs.Walking.{word}
 use Rattle.walk.proofs.Outlines.{begun, not_begun}
 use Rattle.walk.proofs.Walking.{found_here}
 use Rattle.walk.proofs.procedures.at.Goals as goal
@@ -12,11 +11,10 @@ returns-in_err-place-clause-finds c qs here = rw c.from_residual.ensures (not_be
 pub returns : goal.returns
 returns c =
     let p = c.args.program.now in
-    let at = c.at.ensures.at in
     let inside = (found_here begun_name (code_of p) c.args.i _ refl (sym c.in_ok-place.ensures.name)).within in
     record {
       onward = (omega arith, inside);
-      finds = λ qs here. begun p c.args.i _ qs here (c.at.ensures.text ∙ ap (word p) (sym at)) (ap (λ x. Some (word p x)) at ∙ c.in_ok-place.ensures.name) c.part_end.ensures;
+      finds = λ qs here. begun p c.args.i _ qs here refl c.in_ok-place.ensures.name c.part_end.ensures;
       start = refl;
       begins = ap is_some c.in_ok-place.ensures.name;
     }

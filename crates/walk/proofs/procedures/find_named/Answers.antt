@@ -1,4 +1,5 @@
-use Rattle.std.proofs.Common.{[], ◌∙◌}
+use Rattle.std.proofs.Common.{[], ap, ◌∙◌}
+use Rattle.lang.specs.Base.{same}
 use Rattle.lang.specs.Code.{code_procs}
 use Rattle.walk.proofs.Listing.{no_procs, proc_given, proc_begun, procs_on}
 use Rattle.walk.proofs.Outlines.{proc_none, proc_here, proc_behind}
@@ -8,7 +9,7 @@ pub returns-then-is : goal.returns-then-is
 returns-then-is c qs e =
     let left = c.loop-f.invariant.3 qs e in
     let at = proc_given c.args.program.now c.loop-f.f-iterator c.next.new.self c.loop-f.invariant.2 c.in-Some.f c.in-Some.ensures.steps left.procs left.code in
-    record { this = at.this; behind = code_procs at.others []; found = proc_here _ _ _ _ left _ at c.if-is.ensures; here = proc_begun c.args.program.now c.loop-f.f-iterator c.next.new.self c.loop-f.invariant.2 c.in-Some.f c.in-Some.ensures.steps ∙ at.here }
+    record { this = at.this; behind = code_procs at.others []; found = proc_here _ _ _ _ left _ at (c.if-is.ensures ∙ ap (λ t. same t c.args.name.now) c.name.ensures.text); here = proc_begun c.args.program.now c.loop-f.f-iterator c.next.new.self c.loop-f.invariant.2 c.in-Some.f c.in-Some.ensures.steps ∙ at.here }
 
 pub loop-f-preserved : goal.loop-f-preserved
 loop-f-preserved c =
@@ -21,7 +22,7 @@ loop-f-preserved c =
       λ qs e.
           let left = c.loop-f.invariant.3 qs e in
           let at = proc_given p c.loop-f.f-iterator c.next.new.self here c.in-Some.f g left.procs left.code in
-          rw g.onward.1 (proc_behind _ _ _ _ left _ at c.if-is.ensures),
+          rw g.onward.1 (proc_behind _ _ _ _ left _ at (c.if-is.ensures ∙ ap (λ t. same t c.args.name.now) c.name.ensures.text)),
     )
 
 pub returns : goal.returns
