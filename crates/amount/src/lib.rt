@@ -85,7 +85,7 @@ fn call_amount(program: &Program<'_>, node: Node, names: u64) -> u64
 }
 
 // How much the statements at an index are, in a procedure whose names are so much: as `part_amount`, with the calls. A loop of its
-// own, since a second one for the calls alone takes as long again, and no closure that holds a program can be handed to one.
+// own, since a second one for the calls alone takes as long again, and nothing is known of what a closure gives that holds a program.
 fn body_amount(program: &Program<'_>, from: usize, names: u64) -> u64
     ensures { (p : syntax.Program) → Holds program.now p → sound p ≡ true → result ≡ min (weighed (call_size p names) names 2 (level 1) (rest program.now from)) (2 ^ 64 - 1) }
 {

@@ -1,5 +1,5 @@
 -- Arguments: from the caller to the procedure, and back.
-use Rattle.std.proofs.Common.{◌≡◌, ℕ, ◌+◌, ◌-◌, true, false, cond, eqb, List, [], ◌∷◌, ◌++◌, length, take, replicate, Some, None, vec_items, Option, sym, refl, ap, ◌∙◌, subst, inl, inr, append_assoc, append-nil, arith}
+use Rattle.std.proofs.Common.{◌≡◌, ℕ, ◌+◌, ◌-◌, true, false, cond, eqb, List, [], ◌∷◌, ◌++◌, length, replicate, Some, None, vec_items, Option, sym, refl, ap, ◌∙◌, subst, inl, inr, append_assoc, append-nil, arith}
 use Rattle.std.proofs.lemmas.List.{length-append, length-replicate, replicate-append-replicate, take-replicate, drop-replicate, take_all}
 use Rattle.std.proofs.lemmas.Bool.{and_parts, cases_Bool, eqb-true, both_ways}
 use Rattle.lang.specs.Base.{◌>>=◌, maybe, Word, same}
@@ -63,12 +63,6 @@ zeros_none xs ds e = rw e (append-nil xs)
 pub zeros_more : (xs : List ℕ) {ds es : List Decl} {d : Decl} → ds ≡ d ∷ es → (xs ++ replicate (count d) 0) ++ replicate (counts es) 0 ≡ xs ++ replicate (counts ds) 0
 unfolding counts
 zeros_more xs {es = es} {d = d} e = let n : ℕ = 0 in rw e (append_assoc xs (replicate (count d) n) (replicate (counts es) n) ∙ ap (λ zs. xs ++ zs) (replicate-append-replicate (count d) (counts es) n))
-
--- zeros behind others, by their count
-pub filled : (xs all : List ℕ) (long count more n : ℕ) → all ≡ take count xs ++ replicate (count - long) 0 → long ≡ length xs → count ≡ long + more → more ≡ n → all ≡ xs ++ replicate n 0
-filled xs all long count more n is is_long sum same =
-    let left : count - long ≡ n = omega arith in
-    is ∙ rw (left, take_all count xs (omega arith))
 
 pub begun_long : (held : Program) (ps ls : ℕ) (ns all : List ℕ) → length ns ≡ counts (declared (rest held ps)) → all ≡ ns ++ replicate (counts (declared (rest held ls))) 0 → length all ≡ counts (declared (rest held ps) ++ declared (rest held ls))
 begun_long held ps ls ns all long is =

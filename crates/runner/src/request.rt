@@ -61,7 +61,7 @@ pub struct Run<'a> {
 
 impl CommandLine {
     // What is to be run, if a file and a procedure are given.
-    pub(crate) fn run(&self, heap: Global) -> Result<Run<'_>, Stop>
+    pub fn run(&self, heap: Global) -> Result<Run<'_>, Stop>
         ensures { MatchResult result (λ r. r.numbers.now ≡ drop 2 self.now.words.items) (λ _. length self.now.words.items < 2) }
     {
         match self.words.as_slice() {
